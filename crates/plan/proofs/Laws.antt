@@ -1,0 +1,156 @@
+-- Laws of a plan and its checks: a plan passes exactly when it is in bounds, plans that are the same are checked alike,
+-- and a client's slots repeat with the frame.
+-- Assumes nothing.
+use mathlib.Core.Path.{_≡_, refl, ap, sym}
+use mathlib.Core.Bool.{Bool, true, false}
+use Prim.Native.Nat.{ℕ, _+_, _%_, _≤_, _<_}
+use native.Mathlib.Nat.{add-mod-right}
+use native.Mathlib.Omega.{arith}
+use lib.Dec.{eqb}
+use borrow.Author.Tests.{leb-true, le-leb}
+use Rattle.records.specs.First.{pick}
+use Rattle.records.specs.declared.Outcome.the-variants.{Fine}
+use Rattle.records.proofs.Checks.{between-true, both-fine, need-fine, first-fine, first-all, first-same}
+use Rattle.records.proofs.Lists.{get-padded, padded-same}
+use Rattle.plan.specs.declared.Client.{Client}
+use Rattle.plan.specs.declared.Plan.{Plan}
+use Rattle.plan.specs.Plan.{noClient, clientOf, ownerOf, ownOf, Same, used}
+use Rattle.plan.specs.Check.{frameCheck, countCheck, clientCheck, ownerCheck, clientStep, requirementsCheck, ownerStep, ownersCheck, planCheck}
+
+-- ---- one check
+
+pub frame-fine : (f : ℕ) → frameCheck f ≡ Fine → (1 ≤ f) × (f ≤ 64)
+unfolding frameCheck
+frame-fine f h = between-true 1 f 64 (need-fine _ _ _ h)
+
+pub frame-pass : (f : ℕ) → 1 ≤ f → f ≤ 64 → frameCheck f ≡ Fine
+unfolding frameCheck
+frame-pass f l h = simp (le-leb 1 f l, le-leb f 64 h)
+
+pub count-fine : (n : ℕ) → countCheck n ≡ Fine → (1 ≤ n) × (n ≤ 8)
+unfolding countCheck
+count-fine n h = between-true 1 n 8 (need-fine _ _ _ h)
+
+pub count-pass : (n : ℕ) → 1 ≤ n → n ≤ 8 → countCheck n ≡ Fine
+unfolding countCheck
+count-pass n l h = simp (le-leb 1 n l, le-leb n 8 h)
+
+-- what a client's requirements have that pass
+pub record Required (c : Client) : Type 0 where
+  pub p-low : 1 ≤ c .p
+  pub p-high : c .p ≤ c .q
+  pub b-low : 1 ≤ c .b
+
+pub client-fine : (c : Client) (offset : ℕ) → clientCheck c offset ≡ Fine → Required c
+unfolding clientCheck
+client-fine c offset h =
+    let a = both-fine _ _ h in
+    let r = between-true 1 (c .p) (c .q) (need-fine _ _ _ (a .0)) in
+    record { p-low = r .0; p-high = r .1; b-low = leb-true 1 (c .b) (need-fine _ _ _ (a .1)) }
+
+pub client-pass : (c : Client) (offset : ℕ) → Required c → clientCheck c offset ≡ Fine
+unfolding clientCheck
+client-pass c offset r = simp (le-leb 1 (c .p) (r .p-low), le-leb (c .p) (c .q) (r .p-high), le-leb 1 (c .b) (r .b-low))
+
+pub owner-fine : (owner n offset : ℕ) → ownerCheck owner n offset ≡ Fine → owner ≤ n
+unfolding ownerCheck
+owner-fine owner n offset h = leb-true owner n (need-fine _ _ _ h)
+
+pub owner-pass : (owner n offset : ℕ) → owner ≤ n → ownerCheck owner n offset ≡ Fine
+unfolding ownerCheck
+owner-pass owner n offset h = simp (le-leb owner n h)
+
+-- ---- the whole: a plan passes exactly when it is in bounds
+
+pub record InBounds (plan : Plan) : Type 0 where
+  pub f-low : 1 ≤ plan .f
+  pub f-high : plan .f ≤ 64
+  pub n-low : 1 ≤ plan .n
+  pub n-high : plan .n ≤ 8
+  pub required : (i : ℕ) → i < plan .n → Required (clientOf plan i)
+
+pub record Checked (plan : Plan) : Type 0 where
+  pub bounds : InBounds plan
+  pub owned : (x : ℕ) → x < plan .f → ownerOf plan x ≤ plan .n
+
+pub requirements-fine : (plan : Plan) → requirementsCheck plan ≡ Fine → InBounds plan
+unfolding requirementsCheck clientStep
+requirements-fine plan h =
+    let a = both-fine _ _ h in
+    let b = both-fine _ _ (a .1) in
+    let f = frame-fine (plan .f) (a .0) in
+    let n = count-fine (plan .n) (b .0) in
+    record {
+      f-low = f .0;
+      f-high = f .1;
+      n-low = n .0;
+      n-high = n .1;
+      required = λ i l. client-fine (clientOf plan i) 0 (first-fine (clientStep plan) (plan .n) (b .1) i l);
+    }
+
+pub requirements-pass : (plan : Plan) → InBounds plan → requirementsCheck plan ≡ Fine
+unfolding requirementsCheck clientStep
+requirements-pass plan b =
+    rw (
+      frame-pass (plan .f) (b .f-low) (b .f-high),
+      count-pass (plan .n) (b .n-low) (b .n-high),
+    )
+    (first-all (clientStep plan) (plan .n) (λ i l. client-pass (clientOf plan i) 0 (b .required i l)))
+
+pub plan-fine : (plan : Plan) → planCheck plan ≡ Fine → Checked plan
+unfolding planCheck ownersCheck ownerStep
+plan-fine plan h =
+    let a = both-fine _ _ h in
+    record {
+      bounds = requirements-fine plan (a .0);
+      owned = λ x l. owner-fine (ownerOf plan x) (plan .n) 0 (first-fine (ownerStep plan) (plan .f) (a .1) x l);
+    }
+
+pub plan-pass : (plan : Plan) → Checked plan → planCheck plan ≡ Fine
+unfolding planCheck ownersCheck ownerStep
+plan-pass plan c =
+    rw (requirements-pass plan (c .bounds))
+    (first-all (ownerStep plan) (plan .f) (λ x l. owner-pass (ownerOf plan x) (plan .n) 0 (c .owned x l)))
+
+-- ---- plans that are the same
+
+-- what is 0 past f and past n is the same plan
+pub used-same : (plan : Plan) → Same plan (used plan)
+unfolding used
+used-same plan =
+    record {
+      frame = refl;
+      count = refl;
+      clients = λ i l. sym (get-padded (clientOf plan) (plan .n) 8 noClient i l);
+      owners = λ x l. sym (get-padded (ownerOf plan) (plan .f) 64 0 x l);
+    }
+
+-- and there is one such plan
+pub same-used : (plan other : Plan) → Same plan other → used plan ≡ used other
+unfolding used
+same-used plan other s =
+    let c = padded-same (clientOf plan) (clientOf other) (plan .n) 8 noClient (s .clients) in
+    let o = padded-same (ownerOf plan) (ownerOf other) (plan .f) 64 0 (s .owners) in
+    rw (c, o, s .frame, s .count)
+
+-- the same plan is refused alike
+pub same-check : (plan other : Plan) → Same plan other → planCheck plan ≡ planCheck other
+unfolding planCheck requirementsCheck ownersCheck clientStep ownerStep
+same-check plan other s =
+    let c = first-same (clientStep plan) (clientStep other) (plan .n) (λ i l. ap (λ (x : Client). clientCheck x 0) (s .clients i l)) in
+    let o = first-same (ownerStep plan) (ownerStep other) (plan .f) (λ x l. rw (s .owners x l, s .count)) in
+    rw (c, o, s .frame, s .count)
+
+-- ---- a client's slots
+
+own-by : (b : Bool) → pick b 1 0 ≤ 1
+own-by true = omega arith
+own-by false = omega arith
+
+pub own-most : (plan : Plan) (c s : ℕ) → ownOf plan c s ≤ 1
+unfolding ownOf
+own-most plan c s = own-by (eqb (ownerOf plan (s % plan .f)) c)
+
+pub own-round : (plan : Plan) (c s : ℕ) → ownOf plan c (s + plan .f) ≡ ownOf plan c s
+unfolding ownOf
+own-round plan c s = rw (add-mod-right s (plan .f))

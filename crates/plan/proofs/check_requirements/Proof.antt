@@ -1,0 +1,61 @@
+-- `plan::check_requirements` meets its contract: the first of its three checks that refuses decides.
+-- Assumes nothing.
+use mathlib.Core.Path.{sym, _∙_}
+use Rattle.records.proofs.Checks.{stops, passes}
+use Rattle.plan.specs.Check.{requirementsCheck}
+use Rattle.plan.proofs.Laws.{count-fine}
+use borrow.Author.Needs.{needs}
+use Rattle.plan.proofs.check_requirements.Statement.{statement}
+use Rattle.plan.proofs.check_requirements.Tie as tie
+
+check-frame-requires : tie.Need-check-frame-requires
+check-frame-requires c κs = search needs
+
+enum-known-frame : tie.Need-enum-known-frame
+enum-known-frame c = search needs
+
+returns : tie.Need-returns
+unfolding requirementsCheck
+returns c = stops _ (c .before .before .before .check-frame .ensures) (c .before .frame .given .1)
+
+enum-told : tie.Need-enum-told
+enum-told c = search needs
+
+check-count-requires : tie.Need-check-count-requires
+check-count-requires c κs = search needs
+
+enum-known-count : tie.Need-enum-known-count
+enum-known-count c = search needs
+
+returns-2 : tie.Need-returns-2
+unfolding requirementsCheck
+returns-2 c =
+    passes (c .before .before .before .before .before .before .check-frame .ensures) (c .before .before .before .before .enum-told .given .1) (stops _ (c .before .before .before .check-count .ensures) (c .before .count .given .1))
+
+enum-told-2 : tie.Need-enum-told-2
+enum-told-2 c = search needs
+
+check-clients-requires : tie.Need-check-clients-requires
+check-clients-requires c κs =
+    count-fine (c .before .before .before .before .before .before .args .plan .n) (sym (c .before .before .check-count .ensures) ∙ c .enum-told2 .given .1) .1
+
+returns-3 : tie.Need-returns-3
+unfolding requirementsCheck
+returns-3 c =
+    passes (c .before .before .before .before .before .before .check-frame .ensures) (c .before .before .before .before .enum-told .given .1)
+    (passes (c .before .before .before .check-count .ensures) (c .before .enum-told2 .given .1) (c .check-clients .ensures))
+
+pub check-requirements-spec : {M : Type 1} → statement M
+check-requirements-spec =
+    tie.close
+    (tie.spec
+    check-frame-requires
+    enum-known-frame
+    returns
+    enum-told
+    check-count-requires
+    enum-known-count
+    returns-2
+    enum-told-2
+    check-clients-requires
+    returns-3)

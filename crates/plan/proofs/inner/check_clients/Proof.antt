@@ -1,0 +1,84 @@
+-- `plan::inner::check_clients` meets its contract: the loop's invariant is that the clients before i pass.
+-- Assumes nothing.
+use mathlib.Core.Path.{_≡_, sym, _∙_}
+use Prim.Native.Nat.{_≤_, _-_}
+use native.Mathlib.Omega.{arith}
+use borrow.Author.Needs.{needs}
+use Rattle.records.specs.First.{firstOf}
+use Rattle.records.specs.declared.Outcome.the-variants.{Fine}
+use Rattle.records.proofs.Checks.{first-more, first-stop}
+use Rattle.plan.specs.Check.{clientStep}
+use Rattle.plan.proofs.inner.check_clients.Statement.{statement}
+use Rattle.plan.proofs.inner.check_clients.Tie as tie
+
+abbrev Inv-loop : tie.InvT-loop
+Inv-loop plan n i₀ i = (i ≤ n) × (firstOf (clientStep plan) i ≡ Fine)
+
+abbrev μ-loop : tie.MeasureT-loop
+μ-loop plan n i₀ i = n - i
+
+loop-holds : tie.Need-loop-holds Inv-loop μ-loop
+unfolding firstOf
+loop-holds c = search needs
+
+mul-client : tie.Need-mul-client Inv-loop μ-loop
+mul-client c = search needs
+
+element-copy-out-client : tie.Need-element-copy-out-client Inv-loop μ-loop
+element-copy-out-client c = search needs
+
+check-client-requires : tie.Need-check-client-requires Inv-loop μ-loop
+check-client-requires c κs = search needs
+
+enum-known-outcome : tie.Need-enum-known-outcome Inv-loop μ-loop
+enum-known-outcome c = search needs
+
+returns : tie.Need-returns Inv-loop μ-loop
+unfolding clientStep
+returns c =
+    let l = c .before .before .before .before .before .before .loop in
+    let plan = c .before .before .before .before .before .before .before .args .t1 in
+    let found = c .before .before .before .check-client .ensures in
+    first-stop (clientStep plan) (plan .n) (l .i) (omega arith) (l .inv .1) found (c .before .outcome .given .1)
+
+enum-told : tie.Need-enum-told Inv-loop μ-loop
+enum-told c = search needs
+
+add-i : tie.Need-add-i Inv-loop μ-loop
+add-i c = search needs
+
+loop-less : tie.Need-loop-less Inv-loop μ-loop
+loop-less c = search needs
+
+loop-again : tie.Need-loop-again Inv-loop μ-loop
+unfolding clientStep
+loop-again c =
+    let l = c .before .before .before .before .before .loop in
+    let plan = c .before .before .before .before .before .before .args .t1 in
+    let found = c .before .before .check-client .ensures in
+    (omega arith, first-more (clientStep plan) (l .i) (l .inv .1) found (c .enum-told .given .1))
+
+returns-2 : tie.Need-returns-2 Inv-loop μ-loop
+unfolding clientStep
+returns-2 c =
+    let l = c .before .loop in
+    let e : l .i ≡ c .before .before .args .t1 .n = omega arith in
+    sym (rw e at (l .inv .1))
+
+pub check-clients-spec : {M : Type 1} → statement M
+check-clients-spec =
+    tie.close
+    (tie.spec
+    Inv-loop
+    μ-loop
+    loop-holds
+    mul-client
+    element-copy-out-client
+    check-client-requires
+    enum-known-outcome
+    returns
+    enum-told
+    add-i
+    loop-less
+    loop-again
+    returns-2)

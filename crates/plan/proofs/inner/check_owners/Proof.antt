@@ -1,0 +1,80 @@
+-- `plan::inner::check_owners` meets its contract: the loop's invariant is that the owners before x pass.
+-- Assumes nothing.
+use mathlib.Core.Path.{_≡_, sym, _∙_}
+use Prim.Native.Nat.{_≤_, _-_}
+use native.Mathlib.Omega.{arith}
+use borrow.Author.Needs.{needs}
+use Rattle.records.specs.First.{firstOf}
+use Rattle.records.specs.declared.Outcome.the-variants.{Fine}
+use Rattle.records.proofs.Checks.{first-more, first-stop}
+use Rattle.plan.specs.Check.{ownerStep, ownersCheck}
+use Rattle.plan.proofs.inner.check_owners.Statement.{statement}
+use Rattle.plan.proofs.inner.check_owners.Tie as tie
+
+abbrev Inv-loop : tie.InvT-loop
+Inv-loop plan f n x₀ x = (x ≤ f) × (firstOf (ownerStep plan) x ≡ Fine)
+
+abbrev μ-loop : tie.MeasureT-loop
+μ-loop plan f n x₀ x = f - x
+
+loop-holds : tie.Need-loop-holds Inv-loop μ-loop
+unfolding firstOf
+loop-holds c = search needs
+
+element-copy-out-owner : tie.Need-element-copy-out-owner Inv-loop μ-loop
+element-copy-out-owner c = search needs
+
+check-owner-requires : tie.Need-check-owner-requires Inv-loop μ-loop
+check-owner-requires c κs = search needs
+
+enum-known-outcome : tie.Need-enum-known-outcome Inv-loop μ-loop
+enum-known-outcome c = search needs
+
+returns : tie.Need-returns Inv-loop μ-loop
+unfolding ownerStep ownersCheck
+returns c =
+    let l = c .before .before .before .before .before .before .loop in
+    let plan = c .before .before .before .before .before .before .before .args .t1 in
+    let found = c .before .before .before .check-owner .ensures in
+    first-stop (ownerStep plan) (plan .f) (l .x) (omega arith) (l .inv .1) found (c .before .outcome .given .1)
+
+enum-told : tie.Need-enum-told Inv-loop μ-loop
+enum-told c = search needs
+
+add-x : tie.Need-add-x Inv-loop μ-loop
+add-x c = search needs
+
+loop-less : tie.Need-loop-less Inv-loop μ-loop
+loop-less c = search needs
+
+loop-again : tie.Need-loop-again Inv-loop μ-loop
+unfolding ownerStep
+loop-again c =
+    let l = c .before .before .before .before .before .loop in
+    let plan = c .before .before .before .before .before .before .args .t1 in
+    let found = c .before .before .check-owner .ensures in
+    (omega arith, first-more (ownerStep plan) (l .x) (l .inv .1) found (c .enum-told .given .1))
+
+returns-2 : tie.Need-returns-2 Inv-loop μ-loop
+unfolding ownerStep ownersCheck
+returns-2 c =
+    let l = c .before .loop in
+    let e : l .x ≡ c .before .before .args .t1 .f = omega arith in
+    sym (rw e at (l .inv .1))
+
+pub check-owners-spec : {M : Type 1} → statement M
+check-owners-spec =
+    tie.close
+    (tie.spec
+    Inv-loop
+    μ-loop
+    loop-holds
+    element-copy-out-owner
+    check-owner-requires
+    enum-known-outcome
+    returns
+    enum-told
+    add-x
+    loop-less
+    loop-again
+    returns-2)

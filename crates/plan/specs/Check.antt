@@ -1,0 +1,44 @@
+-- A plan's checks: "5, 6, then 8 and 9 client by client, then 10 slot by slot" (document 01, Refusal numbers).
+use Prim.Native.Nat.{ℕ}
+use lib.Dec.{leb}
+use Rattle.records.specs.Refusal as refusal
+use Rattle.records.specs.First.{between, need, orElse, firstOf}
+use Rattle.records.specs.declared.Outcome.{Outcome}
+use Rattle.plan.specs.declared.Client.{Client}
+use Rattle.plan.specs.declared.Plan.{Plan}
+use Rattle.plan.specs.Plan.{clientOf, ownerOf}
+
+-- 5: f is not 1 to 64
+unfoldable pub frameCheck : ℕ → Outcome
+frameCheck f = need (between 1 f 64) refusal.frame 0
+
+-- 6: n is not 1 to 8
+unfoldable pub countCheck : ℕ → Outcome
+countCheck n = need (between 1 n 8) refusal.count 0
+
+-- 8: p is 0, q is 0 or p > q, that is, p is not 1 to q; then 9: b is 0
+unfoldable pub clientCheck : Client → ℕ → Outcome
+clientCheck c offset = orElse (need (between 1 (c .p) (c .q)) refusal.rate offset) (need (leb 1 (c .b)) refusal.latency offset)
+
+-- 10: an owner exceeds n
+unfoldable pub ownerCheck : ℕ → ℕ → ℕ → Outcome
+ownerCheck owner n offset = need (leb owner n) refusal.owner offset
+
+-- the requirements: 5, 6, then 8 and 9 client by client
+unfoldable pub clientStep : Plan → ℕ → Outcome
+clientStep plan i = clientCheck (clientOf plan i) 0
+
+unfoldable pub requirementsCheck : Plan → Outcome
+requirementsCheck plan =
+    orElse (frameCheck (plan .f)) (orElse (countCheck (plan .n)) (firstOf (clientStep plan) (plan .n)))
+
+-- the owners: 10 slot by slot
+unfoldable pub ownerStep : Plan → ℕ → Outcome
+ownerStep plan x = ownerCheck (ownerOf plan x) (plan .n) 0
+
+unfoldable pub ownersCheck : Plan → Outcome
+ownersCheck plan = firstOf (ownerStep plan) (plan .f)
+
+-- the whole plan
+unfoldable pub planCheck : Plan → Outcome
+planCheck plan = orElse (requirementsCheck plan) (ownersCheck plan)

@@ -1,0 +1,48 @@
+-- The plan as a value (document 01, Plan).
+use mathlib.Core.Path.{_≡_}
+use Prim.Native.Nat.{ℕ, _%_, _<_}
+use lib.Dec.{eqb}
+use lib.ListN.{getD, replicate}
+use Rattle.records.specs.First.{pick}
+use Rattle.records.specs.Pieces.{padded}
+use Rattle.plan.specs.declared.Client.{Client}
+use Rattle.plan.specs.declared.Plan.{Plan}
+
+-- "a plan with every number 0", and its clients
+abbrev pub noClient : Client
+noClient = record { p = 0; q = 0; a = 0; b = 0 }
+
+abbrev pub noPlan : Plan
+noPlan = record { f = 0; n = 0; clients = replicate 8 noClient; owners = replicate 64 0 }
+
+-- client i + 1 of a plan, and the owner of slot x
+abbrev pub clientOf : Plan → ℕ → Client
+clientOf plan i = getD (plan .clients) i noClient
+
+abbrev pub ownerOf : Plan → ℕ → ℕ
+ownerOf plan x = getD (plan .owners) x 0
+
+-- the slots of client c in the frame that repeats: 1 where slot s, counted on without end, is its own, else 0
+unfoldable pub ownOf : Plan → ℕ → ℕ → ℕ
+ownOf plan c s = pick (eqb (ownerOf plan (s % plan .f)) c) 1 0
+
+-- "Plans are the same when f, n and the used places agree"
+pub record Same (plan other : Plan) : Type 0 where
+  pub frame : plan .f ≡ other .f
+  pub count : plan .n ≡ other .n
+  pub clients : (i : ℕ) → i < plan .n → clientOf plan i ≡ clientOf other i
+  pub owners : (x : ℕ) → x < plan .f → ownerOf plan x ≡ ownerOf other x
+
+-- "places past f and past n .. are 0 on the way out": the same plan with 0 there
+unfoldable pub used : Plan → Plan
+used plan =
+    record {
+      f = plan .f;
+      n = plan .n;
+      clients = padded (clientOf plan) (plan .n) 8 noClient;
+      owners = padded (ownerOf plan) (plan .f) 64 0;
+    }
+
+-- "A wait asked without a number is for one request"
+abbrev pub defaultWaiting : ℕ
+defaultWaiting = 1

@@ -1,0 +1,99 @@
+// A plan's checks one by one. The offset is where the number was read, 0 in a plan held as a value.
+use super::Client;
+use super::Plan;
+use records::Outcome;
+use records::refusal;
+use records::wide;
+ghost use mathlib.Core.Path.{_≡_};
+ghost use Prim.Native.Nat.{_≤_};
+ghost use Rattle.records.specs.First.{firstOf};
+ghost use Rattle.plan.specs.Check.{frameCheck, countCheck, clientCheck, ownerCheck, clientStep, ownersCheck};
+
+// 5: f is 1 to 64.
+pub fn check_frame(f: usize) -> Outcome
+    ensures { λ r. ⌜ r ≡ frameCheck f ⌝ }
+{
+    if f < 1 {
+        return Outcome::Refused(refusal::FRAME, 0);
+    }
+    if 64 < f {
+        return Outcome::Refused(refusal::FRAME, 0);
+    }
+    Outcome::Fine
+}
+
+// 6: n is 1 to 8.
+pub fn check_count(n: usize) -> Outcome
+    ensures { λ r. ⌜ r ≡ countCheck n ⌝ }
+{
+    if n < 1 {
+        return Outcome::Refused(refusal::COUNT, 0);
+    }
+    if 8 < n {
+        return Outcome::Refused(refusal::COUNT, 0);
+    }
+    Outcome::Fine
+}
+
+// 8, then 9: p is 1 to q, and b is not 0.
+pub fn check_client(client: Client, offset: usize) -> Outcome
+    ensures { λ r. ⌜ r ≡ clientCheck client offset ⌝ }
+{
+    if client.p < 1 {
+        return Outcome::Refused(refusal::RATE, offset);
+    }
+    if client.q < client.p {
+        return Outcome::Refused(refusal::RATE, offset);
+    }
+    if client.b < 1 {
+        return Outcome::Refused(refusal::LATENCY, offset);
+    }
+    Outcome::Fine
+}
+
+// 10: an owner is 0 to n.
+pub fn check_owner(owner: u8, n: usize, offset: usize) -> Outcome
+    ensures { λ r. ⌜ r ≡ ownerCheck owner n offset ⌝ }
+{
+    if n < wide(owner) {
+        return Outcome::Refused(refusal::OWNER, offset);
+    }
+    Outcome::Fine
+}
+
+// 8 and 9, client by client.
+pub fn check_clients(plan: Plan) -> Outcome
+    requires { ⌜ plan .n ≤ 8 ⌝ }
+    ensures { λ r. ⌜ r ≡ firstOf (clientStep plan) (plan .n) ⌝ }
+{
+    let n = plan.n;
+    let mut i = 0;
+    while i < n {
+        let client = plan.clients[i];
+        let outcome = check_client(client, 0);
+        if let Outcome::Refused(number, offset) = outcome {
+            return Outcome::Refused(number, offset);
+        }
+        i += 1;
+    }
+    Outcome::Fine
+}
+
+// 10, slot by slot.
+pub fn check_owners(plan: Plan) -> Outcome
+    requires { ⌜ plan .f ≤ 64 ⌝ }
+    ensures { λ r. ⌜ r ≡ ownersCheck plan ⌝ }
+{
+    let f = plan.f;
+    let n = plan.n;
+    let mut x = 0;
+    while x < f {
+        let owner = plan.owners[x];
+        let outcome = check_owner(owner, n, 0);
+        if let Outcome::Refused(number, offset) = outcome {
+            return Outcome::Refused(number, offset);
+        }
+        x += 1;
+    }
+    Outcome::Fine
+}

@@ -1,0 +1,5 @@
+pub mod Checks
+pub mod Lists
+pub mod Parts
+pub mod Puts
+pub mod Words

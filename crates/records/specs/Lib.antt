@@ -1,0 +1,5 @@
+pub mod Refusal
+pub mod First
+pub mod Pieces
+pub mod Record
+pub mod Put

@@ -1,0 +1,57 @@
+// What all streams of records share, whatever their kinds: what a check finds, the record that is due at a place,
+// the bytes past the end. `inner` has what asks for room: words of two bytes, and bytes put into a lent output.
+pub mod inner; // inner.rt
+pub mod refusal; // refusal.rt
+
+ghost use mathlib.Core.Path.{_≡_};
+ghost use Prim.Native.Nat.{_<_};
+ghost use lib.ListN.{getD};
+ghost use Rattle.records.specs.Record.{recordCheck, overCheck};
+
+// What a check finds: nothing, or a refusal's number and offset (0 where no stream is read).
+pub enum Outcome {
+    Fine,
+    Refused(u8, usize),
+}
+
+// A byte as a number that can be an index.
+pub fn wide(x: u8) -> usize
+    ensures { λ r. ⌜ (r ≡ x) × (r < 256) ⌝ }
+{
+    x as usize
+}
+
+// The kind byte at a place, 0 past the end.
+pub fn kind_at(s: &[u8], at: usize) -> u8
+    ensures { λ r. ⌜ r ≡ getD (now (s .entry)) at 0 ⌝ }
+{
+    if at < s.len() { s[at] } else { 0 }
+}
+
+// The record at a place, its kind's class 0 where it is due and else the refusal; its body this many bytes.
+pub fn check_record(s: &[u8], at: usize, class: u8, body: usize) -> Outcome
+    ensures { λ r. ⌜ r ≡ recordCheck (now (s .entry)) at class body ⌝ }
+{
+    if s.len() <= at {
+        return Outcome::Refused(refusal::ENDED, s.len());
+    }
+    if class != 0 {
+        return Outcome::Refused(class, at);
+    }
+    if body < s.len() - at {
+        Outcome::Fine
+    } else {
+        Outcome::Refused(refusal::ENDED, at)
+    }
+}
+
+// Nothing follows the end record, whose next place is at.
+pub fn check_over(s: &[u8], at: usize) -> Outcome
+    ensures { λ r. ⌜ r ≡ overCheck (now (s .entry)) at ⌝ }
+{
+    if s.len() <= at {
+        Outcome::Fine
+    } else {
+        Outcome::Refused(refusal::FOLLOWED, at)
+    }
+}

@@ -1,0 +1,5 @@
+pub mod Records
+pub mod Lengths
+pub mod WrittenBack
+pub mod ReadBack
+pub mod Answers

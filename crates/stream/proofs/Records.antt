@@ -1,0 +1,158 @@
+-- Laws of a plan stream's records and their places: what a record that passes says, and where the next one stands.
+-- Assumes nothing.
+use mathlib.Core.Path.{_≡_, refl, sym, _∙_}
+use mathlib.Core.Bool.{Bool, true, false}
+use mathlib.Core.List.{List}
+use Prim.Native.Nat.{ℕ, zero, suc, _+_, _*_, _≤_, _<_}
+use native.Mathlib.Numerals.{add-one}
+use native.Mathlib.Omega.{arith}
+use lib.Dec.{eqb}
+use lib.ListN.{length, getD}
+use borrow.Author.Tests.{eqb-true}
+use Rattle.records.specs.Refusal as refusal
+use Rattle.records.specs.First.{pick, firstOf}
+use Rattle.records.specs.declared.Outcome.{Outcome}
+use Rattle.records.specs.declared.Outcome.the-variants.{Fine}
+use Rattle.records.proofs.Checks.{both-fine, need-fine, first-fine, record-fine, record-pass, over-fine}
+use Rattle.plan.proofs.Laws.{Required, frame-fine, count-fine, client-fine}
+use Rattle.stream.specs.Kind.{headKind, clientKind, rowKind, endKind, bodyOf, wholeOf, reserved, classOf, rowsOf}
+use Rattle.stream.specs.Read.{after, place, dueCheck, headCheck, clientAt, clientRead, clientDue, slotDue, rowRead, rowDue, endRead, toClients, toRows, toEnd, restCheck, readCheck}
+
+-- ---- a record where a kind is due
+
+-- it has that kind, and stands whole
+pub record Whole (s : List ℕ) (at kind : ℕ) : Type 0 where
+  pub found : getD s at 0 ≡ kind
+  pub room : at + wholeOf kind ≤ length s
+
+class-by : (r e : Bool) → pick r refusal.reserved (pick e 0 refusal.notDue) ≡ 0 → e ≡ true
+class-by true e h = absurd (omega arith)
+class-by false true h = refl
+class-by false false h = absurd (omega arith)
+
+class-due : (due kind : ℕ) → classOf due kind ≡ 0 → kind ≡ due
+unfolding classOf
+class-due due kind h = eqb-true kind due (class-by (reserved kind) (eqb kind due) h)
+
+pub due-fine : (s : List ℕ) (at due : ℕ) → dueCheck s at due ≡ Fine → Whole s at due
+unfolding dueCheck
+due-fine s at due h =
+    let a = record-fine s at (classOf due (getD s at 0)) (bodyOf (getD s at 0)) h in
+    let k : getD s at 0 ≡ due = class-due due (getD s at 0) (a .0) in
+    record { found = k; room = rw k at (a .1) }
+
+-- the same of what a check found, v
+pub due-found : (s : List ℕ) (at due : ℕ) {v : Outcome} → v ≡ dueCheck s at due → v ≡ Fine → Whole s at due
+due-found s at due e h = due-fine s at due (sym e ∙ h)
+
+pub due-pass : (s : List ℕ) (at due : ℕ) → classOf due due ≡ 0 → Whole s at due → dueCheck s at due ≡ Fine
+unfolding dueCheck
+due-pass s at due e w = rw (w .found) (record-pass s at (classOf due due) (bodyOf due) e (w .room))
+
+-- ---- places
+
+-- the record after one of this kind
+pub after-whole : (s : List ℕ) (at kind : ℕ) → getD s at 0 ≡ kind → after s at ≡ at + wholeOf kind
+unfolding after
+after-whole s at kind h = rw h
+
+pub place-more : (s : List ℕ) (at i : ℕ) → place s at (i + 1) ≡ after s (place s at i)
+unfolding place
+place-more s at i = rw add-one
+
+-- ---- what each record says that passes
+
+pub record HeadFine (s : List ℕ) : Type 0 where
+  pub whole : Whole s 0 headKind
+  pub f-low : 1 ≤ getD s 1 0
+  pub f-high : getD s 1 0 ≤ 64
+  pub n-low : 1 ≤ getD s 2 0
+  pub n-high : getD s 2 0 ≤ 8
+
+pub head-fine : (s : List ℕ) → headCheck s ≡ Fine → HeadFine s
+unfolding headCheck
+head-fine s h =
+    let a = both-fine _ _ h in
+    let b = both-fine _ _ (a .1) in
+    let f = frame-fine (getD s 1 0) (b .0) in
+    let n = count-fine (getD s 2 0) (b .1) in
+    record { whole = due-fine s 0 headKind (a .0); f-low = f .0; f-high = f .1; n-low = n .0; n-high = n .1 }
+
+-- the same of what a check found, v
+pub head-found : (s : List ℕ) {v : Outcome} → v ≡ headCheck s → v ≡ Fine → HeadFine s
+head-found s e h = head-fine s (sym e ∙ h)
+
+pub record ClientFine (s : List ℕ) (at number : ℕ) : Type 0 where
+  pub whole : Whole s at clientKind
+  pub numbered : getD s (at + 1) 0 ≡ number
+  pub required : Required (clientAt s at)
+
+pub client-read : (s : List ℕ) (at number : ℕ) → clientRead s at number ≡ Fine → ClientFine s at number
+unfolding clientRead
+client-read s at number h =
+    let a = both-fine _ _ h in
+    let b = both-fine _ _ (a .1) in
+    record {
+      whole = due-fine s at clientKind (a .0);
+      numbered = eqb-true _ _ (need-fine _ _ _ (b .0));
+      required = client-fine (clientAt s at) at (b .1);
+    }
+
+pub client-at : (s : List ℕ) (at n : ℕ) → firstOf (clientDue s at) n ≡ Fine → (i : ℕ) → i < n
+    → ClientFine s (place s at i) (i + 1)
+unfolding clientDue
+client-at s at n h i l = client-read s (place s at i) (i + 1) (first-fine (clientDue s at) n h i l)
+
+pub record RowFine (s : List ℕ) (f n at j : ℕ) : Type 0 where
+  pub whole : Whole s at rowKind
+  pub slots : firstOf (slotDue s f n at j) 8 ≡ Fine
+
+pub row-read : (s : List ℕ) (f n at j : ℕ) → rowRead s f n at j ≡ Fine → RowFine s f n at j
+unfolding rowRead
+row-read s f n at j h = let a = both-fine _ _ h in record { whole = due-fine s at rowKind (a .0); slots = a .1 }
+
+pub row-at : (s : List ℕ) (f n at m : ℕ) → firstOf (rowDue s f n at) m ≡ Fine → (j : ℕ) → j < m
+    → RowFine s f n (place s at j) j
+unfolding rowDue
+row-at s f n at m h j l = row-read s f n (place s at j) j (first-fine (rowDue s f n at) m h j l)
+
+-- rows are of one length
+pub row-place : (s : List ℕ) (f n at m : ℕ) → firstOf (rowDue s f n at) m ≡ Fine → (j : ℕ) → j ≤ m
+    → place s at j ≡ at + wholeOf rowKind * j
+unfolding place
+row-place s f n at m h zero l = omega arith
+row-place s f n at m h (suc j) l =
+    let k = row-at s f n at m h j (omega arith) in
+    after-whole s (place s at j) rowKind (k .whole .found) ∙ omega (arith, row-place s f n at m h j (omega arith))
+
+-- ---- a stream that passes
+
+pub record RestFine (s : List ℕ) (f n : ℕ) : Type 0 where
+  pub clients : firstOf (clientDue s (toClients s)) n ≡ Fine
+  pub rows : firstOf (rowDue s f n (toRows s n)) (rowsOf f) ≡ Fine
+  pub end : Whole s (toEnd s f n) endKind
+  pub last : length s ≤ toEnd s f n + wholeOf endKind
+
+pub rest-fine : (s : List ℕ) (f n : ℕ) → restCheck s f n ≡ Fine → RestFine s f n
+unfolding restCheck endRead
+rest-fine s f n h =
+    let a = both-fine _ _ h in
+    let b = both-fine _ _ (a .1) in
+    let d = both-fine _ _ (b .1) in
+    let w = due-fine s (toEnd s f n) endKind (d .0) in
+    record {
+      clients = a .0;
+      rows = b .0;
+      end = w;
+      last = rw (after-whole s (toEnd s f n) endKind (w .found)) at (over-fine s (after s (toEnd s f n)) (d .1));
+    }
+
+pub record ReadFine (s : List ℕ) : Type 0 where
+  pub head : HeadFine s
+  pub rest : RestFine s (getD s 1 0) (getD s 2 0)
+
+pub read-fine : (s : List ℕ) → readCheck s ≡ Fine → ReadFine s
+unfolding readCheck
+read-fine s h =
+    let a = both-fine _ _ h in
+    record { head = head-fine s (a .0); rest = rest-fine s (getD s 1 0) (getD s 2 0) (a .1) }

@@ -1,0 +1,195 @@
+-- A stream that is read is written back byte for byte, and its plan passes the plan's own checks. Each record of the
+-- plan's stream is the part of s that it was read from, and the parts in order make up s.
+-- Assumes nothing.
+use mathlib.Core.Path.{_≡_, ap, sym, _∙_}
+use mathlib.Core.List.{List, [], _∷_, _++_, append-assoc, append-nil}
+use mathlib.Core.Logic.{⊎-elim}
+use Prim.Native.Nat.{ℕ, _+_, _*_, _/_, _%_, _≤_, _<_}
+use native.Mathlib.Nat.{add-assoc, add-zero}
+use native.Mathlib.Omega.{arith}
+use lib.Dec.{ltb, eqb}
+use lib.ListN.{drop, getD, drop-of-length-le}
+use borrow.Author.Tests.{lt-ltb, le-ltb, eqb-true}
+use Rattle.records.specs.Refusal as refusal
+use Rattle.records.specs.First.{pick, need}
+use Rattle.records.specs.Pieces.{many, firsts, part}
+use Rattle.records.specs.declared.Outcome.the-variants.{Fine}
+use Rattle.records.proofs.Checks.{below-or-not, need-fine, first-fine}
+use Rattle.records.proofs.Lists.{firsts-same, get-padded}
+use Rattle.records.proofs.Parts.{part-run, part-rest, many-part}
+use Rattle.records.proofs.Words.{Bytes, high, low}
+use Rattle.plan.specs.Plan.{noClient, clientOf, ownerOf}
+use Rattle.plan.specs.Check.{planCheck}
+use Rattle.plan.proofs.Laws.{Checked, owner-fine, plan-pass}
+use Rattle.stream.specs.Kind.{headKind, clientKind, rowKind, endKind, wholeOf, rowsOf}
+use Rattle.stream.specs.Read.{place, clientAt, slotCheck, slotDue, toClients, toRows, toEnd, readCheck, clientIn, ownerIn, planOf}
+use Rattle.stream.specs.Write.{headBytes, clientBytes, clientRecord, slotByte, slotIn, rowRecord, streamOf}
+use Rattle.stream.proofs.Records.{ClientFine, RowFine, ReadFine, after-whole, client-at, row-at, read-fine}
+use Rattle.stream.proofs.Lengths.{length-client, length-row}
+
+-- ---- one record
+
+-- a client's record is the record of the client read from it
+client-back : (s : List ℕ) (at number : ℕ) → Bytes s → ClientFine s at number
+    → part s at (wholeOf clientKind) ≡ clientBytes number (clientAt s at)
+unfolding clientBytes clientAt
+client-back s at number b f =
+    let found : getD s (at + 0) 0 ≡ clientKind = ap (λ (x : ℕ). getD s x 0) (add-zero at) ∙ f .whole .found in
+    let numbered = f .numbered in
+    part-run s at (wholeOf clientKind) (f .whole .room) ∙ simp (found, numbered, high s b, low s b) (simp add-assoc)
+
+-- what passes as the byte of a slot: its owner, or 255 past f
+slot-back : (f n x byte at : ℕ) → slotCheck f n x byte at ≡ Fine → pick (ltb x f) byte 255 ≡ byte
+unfolding slotCheck
+slot-back f n x byte at h =
+    ⊎-elim
+    (λ (l : x < f). simp (lt-ltb x f l))
+    (λ (l : f ≤ x).
+    let past : need (eqb byte 255) refusal.pastFrame at ≡ Fine = rw (le-ltb x f l) at h in
+    simp (le-ltb x f l) (sym (eqb-true byte 255 (need-fine _ _ _ past))))
+    (below-or-not x f)
+
+-- ---- a stream that passes
+
+module _ (s : List ℕ) (z : ReadFine s) where
+  client-in : (i : ℕ) → i < getD s 2 0 → clientOf (planOf s) i ≡ clientAt s (place s (toClients s) i)
+  unfolding planOf clientIn
+  client-in i l = get-padded (clientIn s (toClients s)) (getD s 2 0) 8 noClient i l
+
+  owner-in : (x : ℕ) → x < getD s 1 0
+      → ownerOf (planOf s) x ≡ getD s (place s (toRows s (getD s 2 0)) (x / 8) + (1 + x % 8)) 0
+  unfolding planOf ownerIn
+  owner-in x l = get-padded (ownerIn s (toRows s (getD s 2 0))) (getD s 1 0) 64 0 x l
+
+  -- row j of the rows
+  row : (j : ℕ) → j < rowsOf (getD s 1 0) → RowFine s (getD s 1 0) (getD s 2 0) (place s (toRows s (getD s 2 0)) j) j
+  row j l = row-at s (getD s 1 0) (getD s 2 0) (toRows s (getD s 2 0)) (rowsOf (getD s 1 0)) (z .rest .rows) j l
+
+  clients-back : Bytes s → many (clientRecord (planOf s)) (getD s 2 0) ++ drop (toRows s (getD s 2 0)) s ≡ drop (toClients s) s
+  unfolding clientRecord place
+  clients-back b =
+      many-part (clientRecord (planOf s)) s (place s (toClients s)) (getD s 2 0)
+      (λ (i : ℕ) (l : i < getD s 2 0).
+      let at : ℕ = place s (toClients s) i in
+      let c = client-at s (toClients s) (getD s 2 0) (z .rest .clients) i l in
+      let same : clientBytes (i + 1) (clientAt s at) ≡ clientBytes (i + 1) (clientOf (planOf s) i) =
+      ap (clientBytes (i + 1)) (sym (client-in i l)) in
+      let w = length-client (i + 1) (clientOf (planOf s) i) in (
+        after-whole s at clientKind (c .whole .found) ∙ ap (λ (k : ℕ). at + k) (sym w),
+        ap (part s at) w ∙ client-back s at (i + 1) b c ∙ same,
+      ))
+
+  slots-back : (j t : ℕ) → j < rowsOf (getD s 1 0) → t < 8
+      → slotIn (planOf s) j t ≡ getD s (place s (toRows s (getD s 2 0)) j + (1 + t)) 0
+  unfolding slotIn slotByte slotDue planOf
+  slots-back j t l m =
+      let f : ℕ = getD s 1 0 in
+      let n : ℕ = getD s 2 0 in
+      let at : ℕ = place s (toRows s n) j in
+      let x : ℕ = 8 * j + t in
+      let byte : ℕ = getD s (at + (1 + t)) 0 in
+      let c = slot-back f n x byte at (first-fine (slotDue s f n at j) 8 (row j l .slots) t m) in
+      ⊎-elim
+      (λ (y : x < f).
+      let d : x / 8 ≡ j = omega arith in
+      let r : x % 8 ≡ t = omega arith in
+      simp (lt-ltb x f y) (owner-in x y ∙ rw (d, r)))
+      (λ (y : f ≤ x). simp (le-ltb x f y) (rw (le-ltb x f y) at c))
+      (below-or-not x f)
+
+  row-back : (j : ℕ) → j < rowsOf (getD s 1 0)
+      → part s (place s (toRows s (getD s 2 0)) j) (wholeOf rowKind) ≡ rowRecord (planOf s) j
+  unfolding rowRecord firsts
+  row-back j l =
+      let at : ℕ = place s (toRows s (getD s 2 0)) j in
+      let w = row j l .whole in
+      let found : getD s (at + 0) 0 ≡ rowKind = ap (λ (x : ℕ). getD s x 0) (add-zero at) ∙ w .found in
+      let slots : firsts (λ (t : ℕ). getD s (at + (1 + t)) 0) 8 ≡ firsts (slotIn (planOf s) j) 8 =
+      firsts-same (λ (t : ℕ). getD s (at + (1 + t)) 0) (slotIn (planOf s) j) 8 (λ t m. sym (slots-back j t l m)) in
+      part-run s at (wholeOf rowKind) (w .room)
+      ∙ ap (λ (k : ℕ). k ∷ firsts (λ (t : ℕ). getD s (at + (1 + t)) 0) 8) found
+      ∙ ap (λ (r : List ℕ). rowKind ∷ r) slots
+
+  rows-back : many (rowRecord (planOf s)) (rowsOf (getD s 1 0)) ++ drop (toEnd s (getD s 1 0) (getD s 2 0)) s
+      ≡ drop (toRows s (getD s 2 0)) s
+  unfolding place
+  rows-back =
+      many-part (rowRecord (planOf s)) s (place s (toRows s (getD s 2 0))) (rowsOf (getD s 1 0))
+      (λ (j : ℕ) (l : j < rowsOf (getD s 1 0)).
+      let at : ℕ = place s (toRows s (getD s 2 0)) j in
+      let w = length-row (planOf s) j in (
+        after-whole s at rowKind (row j l .whole .found) ∙ ap (λ (k : ℕ). at + k) (sym w),
+        ap (part s at) w ∙ row-back j l,
+      ))
+
+  end-back : endKind ∷ [] ≡ drop (toEnd s (getD s 1 0) (getD s 2 0)) s
+  end-back =
+      let at : ℕ = toEnd s (getD s 1 0) (getD s 2 0) in
+      let w = z .rest .end in
+      let found : getD s (at + 0) 0 ≡ endKind = ap (λ (x : ℕ). getD s x 0) (add-zero at) ∙ w .found in
+      let one : part s at (wholeOf endKind) ≡ endKind ∷ [] =
+      part-run s at (wholeOf endKind) (w .room) ∙ ap (λ (k : ℕ). k ∷ []) found in
+      sym
+      (sym (part-rest s at (wholeOf endKind))
+      ∙ ap (λ (r : List ℕ). part s at (wholeOf endKind) ++ r) (drop-of-length-le s (z .rest .last))
+      ∙ append-nil (part s at (wholeOf endKind))
+      ∙ one)
+
+  head-back : headBytes (planOf s) ++ drop (toClients s) s ≡ s
+  unfolding planOf
+  head-back =
+      let w = z .head .whole in
+      let three : part s 0 (wholeOf headKind) ≡ headKind ∷ getD s 1 0 ∷ getD s 2 0 ∷ [] =
+      part-run s 0 (wholeOf headKind) (w .room) ∙ ap (λ (k : ℕ). k ∷ getD s 1 0 ∷ getD s 2 0 ∷ []) (w .found) in
+      ap (λ (k : ℕ). headBytes (planOf s) ++ drop k s) (after-whole s 0 headKind (w .found))
+      ∙ ap (λ (r : List ℕ). r ++ drop (wholeOf headKind) s) (sym three)
+      ∙ part-rest s 0 (wholeOf headKind)
+
+  stream-back : Bytes s → streamOf (planOf s) ≡ s
+  unfolding streamOf planOf
+  stream-back b =
+      let plan = planOf s in
+      let head : List ℕ = headBytes plan in
+      let clients : List ℕ = many (clientRecord plan) (getD s 2 0) in
+      let rows : List ℕ = many (rowRecord plan) (rowsOf (getD s 1 0)) in
+      let end : List ℕ = drop (toEnd s (getD s 1 0) (getD s 2 0)) s in
+      ap (λ (r : List ℕ). head ++ clients ++ rows ++ r) end-back
+      ∙ append-assoc (head ++ clients) rows end
+      ∙ ap (λ (r : List ℕ). head ++ clients ++ r) rows-back
+      ∙ append-assoc head clients (drop (toRows s (getD s 2 0)) s)
+      ∙ ap (λ (r : List ℕ). head ++ r) (clients-back b)
+      ∙ head-back
+
+  checked : Checked (planOf s)
+  unfolding planOf slotDue slotCheck
+  checked =
+      let f : ℕ = getD s 1 0 in
+      let n : ℕ = getD s 2 0 in
+      record {
+        bounds =
+            record {
+              f-low = z .head .f-low;
+              f-high = z .head .f-high;
+              n-low = z .head .n-low;
+              n-high = z .head .n-high;
+              required =
+                  λ (i : ℕ) (l : i < n).
+                  rw (client-in i l) (client-at s (toClients s) n (z .rest .clients) i l .required);
+            };
+        owned =
+            λ (x : ℕ) (l : x < f).
+            let at : ℕ = place s (toRows s n) (x / 8) in
+            let e : 8 * (x / 8) + x % 8 ≡ x = omega arith in
+            let slot = first-fine (slotDue s f n at (x / 8)) 8 (row (x / 8) (omega arith) .slots) (x % 8) (omega arith) in
+            rw (owner-in x l) (owner-fine (getD s (at + (1 + x % 8)) 0) n at (rw (e, lt-ltb x f l) at slot));
+      }
+
+-- ---- the theorems
+
+-- "streams read are written back byte for byte"
+pub written-back : (s : List ℕ) → Bytes s → readCheck s ≡ Fine → streamOf (planOf s) ≡ s
+written-back s b h = stream-back s (read-fine s h) b
+
+-- a plan that is read passes the plan's own checks
+pub plan-right : (s : List ℕ) → readCheck s ≡ Fine → planCheck (planOf s) ≡ Fine
+plan-right s h = plan-pass (planOf s) (checked s (read-fine s h))

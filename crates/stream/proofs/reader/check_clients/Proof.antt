@@ -1,0 +1,83 @@
+-- `stream::reader::check_clients` meets its contract: the loop's invariant is that the clients before i pass, and where the next one stands.
+-- Assumes nothing.
+use mathlib.Core.Path.{_≡_, sym, _∙_}
+use Prim.Native.Nat.{_+_, _-_, _*_, _≤_}
+use native.Mathlib.Omega.{arith}
+use borrow.Author.Needs.{needs}
+use Rattle.records.specs.First.{firstOf}
+use Rattle.records.specs.declared.Outcome.the-variants.{Fine}
+use Rattle.records.proofs.Checks.{first-more, first-stop}
+use Rattle.stream.specs.Read.{after, place, clientDue}
+use Rattle.stream.proofs.Records.{place-more}
+use Rattle.stream.proofs.reader.check_clients.Statement.{statement}
+use Rattle.stream.proofs.reader.check_clients.Tie as tie
+
+abbrev Inv-loop : tie.InvT-loop
+Inv-loop s at n to₀ i₀ to i = (i ≤ n) × (firstOf (clientDue s at) i ≡ Fine) × (to ≡ place s at i) × (to ≤ at + 256 * i)
+
+abbrev μ-loop : tie.MeasureT-loop
+μ-loop s at n to₀ i₀ to i = n - i
+
+loop-holds : tie.Need-loop-holds Inv-loop μ-loop
+unfolding firstOf place
+loop-holds c = search needs
+
+add-check-client : tie.Need-add-check-client Inv-loop μ-loop
+add-check-client c = search needs
+
+check-client-requires : tie.Need-check-client-requires Inv-loop μ-loop
+check-client-requires c κs = search needs
+
+enum-known-outcome : tie.Need-enum-known-outcome Inv-loop μ-loop
+enum-known-outcome c = search needs
+
+returns : tie.Need-returns Inv-loop μ-loop
+unfolding clientDue
+returns c =
+    let l = c .before .before .before .before .before .loop in
+    let a = c .before .before .before .before .before .before .before .args in
+    let found = rw (l .inv .2) at (c .before .before .before .check-client .ensures) in
+    first-stop (clientDue (a .s .now) (a .at)) (a .n) (l .i) (c .before .before .before .before .loop-test .taken) (l .inv .1) found (c .before .outcome .given .1)
+
+enum-told : tie.Need-enum-told Inv-loop μ-loop
+enum-told c = search needs
+
+after-requires : tie.Need-after-requires Inv-loop μ-loop
+after-requires c κs = search needs
+
+add-i : tie.Need-add-i Inv-loop μ-loop
+add-i c = search needs
+
+loop-less : tie.Need-loop-less Inv-loop μ-loop
+loop-less c = search needs
+
+loop-again : tie.Need-loop-again Inv-loop μ-loop
+unfolding clientDue
+loop-again c =
+    let l = c .before .before .before .before .before .loop in
+    let a = c .before .before .before .before .before .before .before .args in
+    let found = rw (l .inv .2) at (c .before .before .before .check-client .ensures) in
+    let next = rw (l .inv .2) at (c .after .ensures .0) in
+    let passed = first-more (clientDue (a .s .now) (a .at)) (l .i) (l .inv .1) found (c .before .enum-told .given .1) in
+    (omega arith, passed, next ∙ sym (place-more (a .s .now) (a .at) (l .i)), omega arith)
+
+returns-2 : tie.Need-returns-2 Inv-loop μ-loop
+returns-2 c = let e : c .before .loop .i ≡ c .before .before .before .args .n = omega arith in sym (rw e at (c .before .loop .inv .1))
+
+pub check-clients-spec : {M : Type 1} → statement M
+check-clients-spec =
+    tie.close
+    (tie.spec
+    Inv-loop
+    μ-loop
+    loop-holds
+    add-check-client
+    check-client-requires
+    enum-known-outcome
+    returns
+    enum-told
+    after-requires
+    add-i
+    loop-less
+    loop-again
+    returns-2)

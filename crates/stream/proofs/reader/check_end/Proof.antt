@@ -1,0 +1,46 @@
+-- `stream::reader::check_end` meets its contract: the end record decides where it is refused, else what follows it.
+-- Assumes nothing.
+use mathlib.Core.Path.{_∙_}
+use borrow.Author.Needs.{needs}
+use Rattle.records.proofs.Checks.{stops, passes}
+use Rattle.stream.specs.Read.{after, endRead}
+use Rattle.stream.proofs.reader.check_end.Statement.{statement}
+use Rattle.stream.proofs.reader.check_end.Tie as tie
+
+check-due-requires : tie.Need-check-due-requires
+check-due-requires c κs = search needs
+
+enum-known-due : tie.Need-enum-known-due
+enum-known-due c = search needs
+
+returns : tie.Need-returns
+unfolding endRead
+returns c = stops _ (c .before .before .before .check-due .ensures) (c .before .due .given .1)
+
+enum-told : tie.Need-enum-told
+enum-told c = search needs
+
+after-requires : tie.Need-after-requires
+after-requires c κs = search needs
+
+check-over-requires : tie.Need-check-over-requires
+check-over-requires c κs = search needs
+
+returns-2 : tie.Need-returns-2
+unfolding endRead
+returns-2 c =
+    let over = c .check-over .ensures in
+    let next = c .before .after .ensures .0 in
+    passes (c .before .before .before .before .check-due .ensures) (c .before .before .enum-told .given .1) (over ∙ rw next)
+
+pub check-end-spec : {M : Type 1} → statement M
+check-end-spec =
+    tie.close
+    (tie.spec
+    check-due-requires
+    enum-known-due
+    returns
+    enum-told
+    after-requires
+    check-over-requires
+    returns-2)

@@ -1,0 +1,82 @@
+-- `stream::reader::check_head` meets its contract: the head's record, f and n are checked in this order.
+-- Assumes nothing.
+use native.Mathlib.Omega.{arith}
+use borrow.Author.Needs.{needs}
+use Rattle.records.proofs.Checks.{stops, passes}
+use Rattle.stream.specs.Kind.{headKind}
+use Rattle.stream.specs.Read.{headCheck}
+use Rattle.stream.proofs.Records.{due-found}
+use Rattle.stream.proofs.reader.check_head.Statement.{statement}
+use Rattle.stream.proofs.reader.check_head.Tie as tie
+
+check-due-requires : tie.Need-check-due-requires
+check-due-requires c κs = search needs
+
+enum-known-due : tie.Need-enum-known-due
+enum-known-due c = search needs
+
+returns : tie.Need-returns
+unfolding headCheck
+returns c = stops _ (c .before .before .before .check-due .ensures) (c .before .due .given .1)
+
+enum-told : tie.Need-enum-told
+enum-told c = search needs
+
+shared-slice-read-wide : tie.Need-shared-slice-read-wide
+shared-slice-read-wide c = omega (arith, due-found _ 0 headKind (c .before .before .before .check-due .ensures) (c .before .enum-told .given .1) .room)
+
+wide-requires : tie.Need-wide-requires
+wide-requires c κs = search needs
+
+check-frame-requires : tie.Need-check-frame-requires
+check-frame-requires c κs = search needs
+
+enum-known-frame : tie.Need-enum-known-frame
+enum-known-frame c = search needs
+
+returns-2 : tie.Need-returns-2
+unfolding headCheck
+returns-2 c =
+    let f = c .before .before .before .before .wide .ensures .0 in
+    let frame = rw f at (c .before .before .before .check-frame .ensures) in
+    passes (c .before .before .before .before .before .before .before .before .check-due .ensures) (c .before .before .before .before .before .before .enum-told .given .1) (stops _ frame (c .before .frame .given .1))
+
+enum-told-2 : tie.Need-enum-told-2
+enum-told-2 c = search needs
+
+shared-slice-read-wide-2 : tie.Need-shared-slice-read-wide-2
+shared-slice-read-wide-2 c = omega (arith, due-found _ 0 headKind (c .before .before .before .before .before .before .before .before .check-due .ensures) (c .before .before .before .before .before .before .enum-told .given .1) .room)
+
+wide-requires-2 : tie.Need-wide-requires-2
+wide-requires-2 c κs = search needs
+
+check-count-requires : tie.Need-check-count-requires
+check-count-requires c κs = search needs
+
+returns-3 : tie.Need-returns-3
+unfolding headCheck
+returns-3 c =
+    let f = c .before .before .before .before .before .before .wide .ensures .0 in
+    let n = c .before .wide2 .ensures .0 in
+    let frame = rw f at (c .before .before .before .before .before .check-frame .ensures) in
+    let count = rw n at (c .check-count .ensures) in
+    passes (c .before .before .before .before .before .before .before .before .before .before .check-due .ensures) (c .before .before .before .before .before .before .before .before .enum-told .given .1) (passes frame (c .before .before .before .enum-told2 .given .1) count)
+
+pub check-head-spec : {M : Type 1} → statement M
+check-head-spec =
+    tie.close
+    (tie.spec
+    check-due-requires
+    enum-known-due
+    returns
+    enum-told
+    shared-slice-read-wide
+    wide-requires
+    check-frame-requires
+    enum-known-frame
+    returns-2
+    enum-told-2
+    shared-slice-read-wide-2
+    wide-requires-2
+    check-count-requires
+    returns-3)

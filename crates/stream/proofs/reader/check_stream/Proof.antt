@@ -1,0 +1,60 @@
+-- `stream::reader::check_stream` meets its contract: the head decides where it is refused, else what follows it.
+-- Assumes nothing.
+use native.Mathlib.Omega.{arith}
+use borrow.Author.Needs.{needs}
+use Rattle.records.proofs.Checks.{stops, passes}
+use Rattle.stream.specs.Read.{readCheck}
+use Rattle.stream.proofs.Records.{head-found}
+use Rattle.stream.proofs.reader.check_stream.Statement.{statement}
+use Rattle.stream.proofs.reader.check_stream.Tie as tie
+
+check-head-requires : tie.Need-check-head-requires
+check-head-requires c κs = search needs
+
+enum-known-head : tie.Need-enum-known-head
+enum-known-head c = search needs
+
+returns : tie.Need-returns
+unfolding readCheck
+returns c = stops _ (c .before .before .before .check-head .ensures) (c .before .head .given .1)
+
+enum-told : tie.Need-enum-told
+enum-told c = search needs
+
+shared-slice-read-wide : tie.Need-shared-slice-read-wide
+shared-slice-read-wide c = omega (arith, head-found _ (c .before .before .before .check-head .ensures) (c .before .enum-told .given .1) .whole .room)
+
+wide-requires : tie.Need-wide-requires
+wide-requires c κs = search needs
+
+shared-slice-read-wide-2 : tie.Need-shared-slice-read-wide-2
+shared-slice-read-wide-2 c = omega (arith, head-found _ (c .before .before .before .before .before .check-head .ensures) (c .before .before .before .enum-told .given .1) .whole .room)
+
+wide-requires-2 : tie.Need-wide-requires-2
+wide-requires-2 c κs = search needs
+
+check-rest-requires : tie.Need-check-rest-requires
+check-rest-requires c κs =
+    let head = head-found _ (c .before .before .before .before .before .before .check-head .ensures) (c .before .before .before .before .enum-told .given .1) in
+    (omega arith, omega arith)
+
+returns-2 : tie.Need-returns-2
+unfolding readCheck
+returns-2 c =
+    let rest = rw (c .before .before .before .wide .ensures .0, c .before .wide2 .ensures .0) at (c .check-rest .ensures) in
+    passes (c .before .before .before .before .before .before .before .check-head .ensures) (c .before .before .before .before .before .enum-told .given .1) rest
+
+pub check-stream-spec : {M : Type 1} → statement M
+check-stream-spec =
+    tie.close
+    (tie.spec
+    check-head-requires
+    enum-known-head
+    returns
+    enum-told
+    shared-slice-read-wide
+    wide-requires
+    shared-slice-read-wide-2
+    wide-requires-2
+    check-rest-requires
+    returns-2)

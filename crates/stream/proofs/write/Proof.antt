@@ -1,0 +1,75 @@
+-- `stream::write` meets its contract: the plan's refusal, the room's, or the stream put at the front of the output.
+-- Assumes nothing.
+use mathlib.Core.Path.{_≡_, sym, _∙_}
+use Prim.Native.Nat.{_≤_}
+use native.Mathlib.Nat.{zero-add}
+use native.Mathlib.Omega.{arith}
+use lib.ListN.{length, drop}
+use borrow.Author.Needs.{needs}
+use Rattle.records.proofs.Puts.{put-front}
+use Rattle.plan.proofs.Laws.{plan-fine}
+use Rattle.stream.specs.Read.{place}
+use Rattle.stream.specs.Write.{streamOf}
+use Rattle.stream.proofs.Answers.{plan-refused, room-refused, given, not-reread, reread}
+use Rattle.stream.proofs.write.Statement.{statement}
+use Rattle.stream.proofs.write.Tie as tie
+
+check-requires : tie.Need-check-requires
+check-requires c κs = search needs
+
+enum-known-outcome : tie.Need-enum-known-outcome
+enum-known-outcome c = search needs
+
+returns : tie.Need-returns
+returns c =
+    let plan = c .before .before .before .before .before .args .plan in
+    let out = c .before .before .before .before .before .args .out .now in
+    (plan-refused plan out (sym (c .before .before .before .check .ensures) ∙ c .before .outcome .given .1), not-reread plan _ out)
+
+enum-told : tie.Need-enum-told
+enum-told c = search needs
+
+stream-length-requires : tie.Need-stream-length-requires
+stream-length-requires c κs =
+    let b = plan-fine (c .before .before .before .before .args .plan) (sym (c .before .before .check .ensures) ∙ c .enum-told .given .1) .bounds in
+    (b .f-high, b .n-high)
+
+returns-2 : tie.Need-returns-2
+returns-2 c =
+    let plan = c .before .before .before .before .before .before .args .plan in
+    let out = c .before .before .before .before .before .before .args .out .now in
+    let size = c .before .stream-length .ensures in
+    (room-refused plan out (sym (c .before .before .before .before .check .ensures) ∙ c .before .before .enum-told .given .1) (omega arith), not-reread plan _ out)
+
+put-stream-requires : tie.Need-put-stream-requires
+put-stream-requires c κs =
+    let b = plan-fine (c .before .before .before .before .before .before .before .args .plan) (sym (c .before .before .before .before .before .check .ensures) ∙ c .before .before .before .enum-told .given .1) .bounds in
+    (b .f-high, b .n-high, omega arith)
+
+same-length : tie.Need-same-length
+same-length c = search needs
+
+returns-3 : tie.Need-returns-3
+returns-3 c =
+    let fine = sym (c .before .before .before .before .before .before .before .before .check .ensures) ∙ c .before .before .before .before .before .before .enum-told .given .1 in
+    let plan = c .before .before .before .before .before .before .before .before .before .before .args .plan in
+    let out = c .before .before .before .before .before .before .before .before .before .before .args .out .now in
+    let put = c .before .before .put-stream .ensures in
+    let n : length (streamOf plan) ≤ length out = omega (arith, c .before .before .before .before .before .stream-length .ensures) in
+    let size : c .before .before .put-stream .result ≡ length (streamOf plan) = put .0 .place ∙ zero-add (length (streamOf plan)) in
+    let now = put-front (put .0) n in
+    rw (size, now) (given plan out fine n, reread plan (drop (length (streamOf plan)) out) (put .1) fine)
+
+pub write-spec : {M : Type 1} → statement M
+write-spec =
+    tie.close
+    (tie.spec
+    check-requires
+    enum-known-outcome
+    returns
+    enum-told
+    stream-length-requires
+    returns-2
+    put-stream-requires
+    same-length
+    returns-3)

@@ -1,0 +1,23 @@
+-- `stream::writer::put_row` meets its contract: the kind and then the eight bytes.
+-- Assumes nothing.
+use borrow.Author.Needs.{needs}
+use Rattle.records.proofs.Puts.{then}
+use Rattle.stream.specs.Write.{rowRecord}
+use Rattle.stream.proofs.writer.put_row.Statement.{statement}
+use Rattle.stream.proofs.writer.put_row.Tie as tie
+
+put-byte-requires : tie.Need-put-byte-requires
+put-byte-requires c κs = search needs
+
+put-slots-requires : tie.Need-put-slots-requires
+put-slots-requires c κs = search needs
+
+same-length : tie.Need-same-length
+same-length c = search needs
+
+returns : tie.Need-returns
+unfolding rowRecord
+returns c = then (c .before .before .before .before .before .before .put-byte .ensures) (c .before .before .put-slots .ensures)
+
+pub put-row-spec : {M : Type 1} → statement M
+put-row-spec = tie.close (tie.spec put-byte-requires put-slots-requires same-length returns)

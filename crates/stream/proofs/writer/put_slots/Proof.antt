@@ -1,0 +1,76 @@
+-- `stream::writer::put_slots` meets its contract: the loop's invariant is that the first t bytes are put.
+-- Assumes nothing.
+use mathlib.Core.Path.{_≡_}
+use Prim.Native.Nat.{_-_, _≤_}
+use native.Mathlib.Omega.{arith}
+use borrow.Author.Needs.{needs}
+use Rattle.records.specs.Pieces.{firsts}
+use Rattle.records.specs.Put.{Put}
+use Rattle.records.proofs.Lists.{length-firsts}
+use Rattle.records.proofs.Puts.{none, then-one, put-length}
+use Rattle.stream.specs.Read.{place}
+use Rattle.stream.specs.Write.{slotIn}
+use Rattle.stream.proofs.writer.put_slots.Statement.{statement}
+use Rattle.stream.proofs.writer.put_slots.Tie as tie
+
+abbrev Inv-loop : tie.InvT-loop
+Inv-loop out₀ at plan j to₀ t₀ out to t = (t ≤ 8) × Put out₀ at (firsts (slotIn plan j) t) out to
+
+abbrev μ-loop : tie.MeasureT-loop
+μ-loop out₀ at plan j to₀ t₀ out to t = 8 - t
+
+loop-holds : tie.Need-loop-holds Inv-loop μ-loop
+unfolding firsts
+loop-holds c = (omega arith, none (c .before .args .out .now) (c .before .args .at))
+
+mul-slot-byte : tie.Need-mul-slot-byte Inv-loop μ-loop
+mul-slot-byte c = search needs
+
+add-slot-byte : tie.Need-add-slot-byte Inv-loop μ-loop
+add-slot-byte c = search needs
+
+slot-byte-requires : tie.Need-slot-byte-requires Inv-loop μ-loop
+slot-byte-requires c κs = search needs
+
+put-byte-requires : tie.Need-put-byte-requires Inv-loop μ-loop
+put-byte-requires c κs =
+    let l = c .before .before .before .loop in
+    let n = length-firsts (slotIn (c .before .before .before .before .before .args .plan) (c .before .before .before .before .before .args .j)) (l .t) in
+    omega (arith, l .inv .1 .place, put-length (l .inv .1))
+
+add-t : tie.Need-add-t Inv-loop μ-loop
+add-t c = search needs
+
+loop-less : tie.Need-loop-less Inv-loop μ-loop
+loop-less c = search needs
+
+loop-again : tie.Need-loop-again Inv-loop μ-loop
+unfolding slotIn
+loop-again c =
+    let a = c .before .before .before .before .before .before .before .before .args in
+    let l = c .before .before .before .before .before .before .loop in
+    let put = rw (c .before .before .before .slot-byte .ensures) at (c .before .before .put-byte .ensures) in
+    (omega arith, then-one (slotIn (a .plan) (a .j)) (l .t) (l .inv .1) put)
+
+same-length : tie.Need-same-length Inv-loop μ-loop
+same-length c = put-length (c .before .loop .inv .1)
+
+returns : tie.Need-returns Inv-loop μ-loop
+returns c = let e : c .before .loop .t ≡ 8 = omega arith in rw e at (c .before .loop .inv .1)
+
+pub put-slots-spec : {M : Type 1} → statement M
+put-slots-spec =
+    tie.close
+    (tie.spec
+    Inv-loop
+    μ-loop
+    loop-holds
+    mul-slot-byte
+    add-slot-byte
+    slot-byte-requires
+    put-byte-requires
+    add-t
+    loop-less
+    loop-again
+    same-length
+    returns)

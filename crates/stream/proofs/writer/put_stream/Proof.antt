@@ -1,0 +1,63 @@
+-- `stream::writer::put_stream` meets its contract: the records put one after the other; the room that each asks is part of the stream's.
+-- Assumes nothing.
+use native.Mathlib.Omega.{arith}
+use borrow.Author.Needs.{needs}
+use Rattle.records.proofs.Puts.{then, put-length}
+use Rattle.stream.specs.Kind.{rowsOf}
+use Rattle.stream.specs.Read.{place}
+use Rattle.stream.specs.Write.{streamOf}
+use Rattle.stream.proofs.Lengths.{length-clients, length-rows, length-stream}
+use Rattle.stream.proofs.writer.put_stream.Statement.{statement}
+use Rattle.stream.proofs.writer.put_stream.Tie as tie
+
+put-head-requires : tie.Need-put-head-requires
+put-head-requires c κs = let e = length-stream (c .before .before .args .plan) in (search needs, search needs, omega arith)
+
+put-clients-requires : tie.Need-put-clients-requires
+put-clients-requires c κs =
+    let plan = c .before .before .before .before .before .before .args .plan in
+    let e = length-stream plan in
+    let n = length-clients plan (plan .n) in
+    (search needs, omega (arith, c .before .before .before .put-head .ensures .place, put-length (c .before .before .before .put-head .ensures)))
+
+put-rows-requires : tie.Need-put-rows-requires
+put-rows-requires c κs =
+    let plan = c .before .before .before .before .before .before .before .before .before .before .args .plan in
+    let head = c .before .before .before .before .before .before .before .put-head .ensures in
+    let clients = c .before .before .before .put-clients .ensures .0 in
+    let e = length-stream plan in
+    let n = length-clients plan (plan .n) in
+    let m = length-rows plan (rowsOf (plan .f)) in
+    (search needs, omega (arith, head .place, clients .place, put-length head, put-length clients))
+
+put-byte-requires : tie.Need-put-byte-requires
+put-byte-requires c κs =
+    let plan = c .before .before .before .before .before .before .before .before .before .before .before .before .before .before .args .plan in
+    let head = c .before .before .before .before .before .before .before .before .before .before .before .put-head .ensures in
+    let clients = c .before .before .before .before .before .before .before .put-clients .ensures .0 in
+    let rows = c .before .before .before .put-rows .ensures in
+    let e = length-stream plan in
+    let n = length-clients plan (plan .n) in
+    let m = length-rows plan (rowsOf (plan .f)) in
+    omega (arith, head .place, clients .place, rows .place, put-length head, put-length clients, put-length rows)
+
+same-length : tie.Need-same-length
+same-length c = search needs
+
+returns : tie.Need-returns
+unfolding streamOf
+returns c =
+    let clients = c .before .before .before .before .before .before .before .before .before .before .put-clients .ensures in
+    let rows = then (then (c .before .before .before .before .before .before .before .before .before .before .before .before .before .before .put-head .ensures) (clients .0)) (c .before .before .before .before .before .before .put-rows .ensures) in
+    (then rows (c .before .before .put-byte .ensures), clients .1)
+
+pub put-stream-spec : {M : Type 1} → statement M
+put-stream-spec =
+    tie.close
+    (tie.spec
+    put-head-requires
+    put-clients-requires
+    put-rows-requires
+    put-byte-requires
+    same-length
+    returns)

@@ -1,0 +1,4 @@
+pub mod Kind
+pub mod Write
+pub mod Read
+pub mod Trip

@@ -1,0 +1,115 @@
+-- Reading a plan stream: what is refused where, and the plan that a stream holds (document 01, Refusal numbers).
+use mathlib.Core.List.{List}
+use Prim.Native.Nat.{ℕ, zero, suc, _+_, _*_, _/_, _%_}
+use lib.Dec.{ltb, eqb}
+use lib.ListN.{getD}
+use Rattle.records.specs.Refusal as refusal
+use Rattle.records.specs.First.{pick, need, orElse, firstOf}
+use Rattle.records.specs.Pieces.{padded}
+use Rattle.records.specs.Record.{word, recordCheck, overCheck}
+use Rattle.records.specs.declared.Outcome.{Outcome}
+use Rattle.records.specs.declared.Outcome.the-variants.{Fine, Refused}
+use Rattle.plan.specs.declared.Client.{Client}
+use Rattle.plan.specs.declared.Plan.{Plan}
+use Rattle.plan.specs.Plan.{noClient, noPlan}
+use Rattle.plan.specs.Check.{frameCheck, countCheck, clientCheck, ownerCheck}
+use Rattle.stream.specs.Kind.{headKind, clientKind, rowKind, endKind, bodyOf, wholeOf, classOf, rowsOf}
+use Rattle.stream.specs.declared.Reading.{Reading}
+
+-- ---- places: records follow one another, each as long as its kind says
+
+-- the place after the record at a place
+unfoldable pub after : List ℕ → ℕ → ℕ
+after s at = at + wholeOf (getD s at 0)
+
+-- the place after k records
+unfoldable pub place : List ℕ → ℕ → ℕ → ℕ
+place s at zero = at
+place s at (suc k) = after s (place s at k)
+
+-- ---- checks: "1 (no kind byte), 2, 3, 1 (body short), then fields left to right"
+
+-- a record where a kind is due
+unfoldable pub dueCheck : List ℕ → ℕ → ℕ → Outcome
+dueCheck s at due = recordCheck s at (classOf due (getD s at 0)) (bodyOf (getD s at 0))
+
+-- f, n
+unfoldable pub headCheck : List ℕ → Outcome
+headCheck s = orElse (dueCheck s 0 headKind) (orElse (frameCheck (getD s 1 0)) (countCheck (getD s 2 0)))
+
+-- a client's record: the requirements in it; "for a client 7, 8, 9"
+unfoldable pub clientAt : List ℕ → ℕ → Client
+clientAt s at = record { p = word s (at + 2); q = word s (at + 4); a = word s (at + 6); b = word s (at + 8) }
+
+unfoldable pub clientRead : List ℕ → ℕ → ℕ → Outcome
+clientRead s at number =
+    orElse (dueCheck s at clientKind)
+    (orElse (need (eqb (getD s (at + 1) 0) number) refusal.notNext at) (clientCheck (clientAt s at) at))
+
+-- client i + 1, where the clients' records begin at a place
+unfoldable pub clientDue : List ℕ → ℕ → ℕ → Outcome
+clientDue s at i = clientRead s (place s at i) (i + 1)
+
+-- the byte of slot x: its owner, 10; past f 255, 11
+unfoldable pub slotCheck : ℕ → ℕ → ℕ → ℕ → ℕ → Outcome
+slotCheck f n x byte at = pick (ltb x f) (ownerCheck byte n at) (need (eqb byte 255) refusal.pastFrame at)
+
+-- row j: the bytes of its eight slots
+unfoldable pub slotDue : List ℕ → ℕ → ℕ → ℕ → ℕ → ℕ → Outcome
+slotDue s f n at j t = slotCheck f n (8 * j + t) (getD s (at + (1 + t)) 0) at
+
+unfoldable pub rowRead : List ℕ → ℕ → ℕ → ℕ → ℕ → Outcome
+rowRead s f n at j = orElse (dueCheck s at rowKind) (firstOf (slotDue s f n at j) 8)
+
+-- row j, where the rows begin at a place
+unfoldable pub rowDue : List ℕ → ℕ → ℕ → ℕ → ℕ → Outcome
+rowDue s f n at j = rowRead s f n (place s at j) j
+
+-- the end record; "Number 4 is looked for last"
+unfoldable pub endRead : List ℕ → ℕ → Outcome
+endRead s at = orElse (dueCheck s at endKind) (overCheck s (after s at))
+
+-- where the clients' records, the rows and the end record begin, with n clients and f slots
+abbrev pub toClients : List ℕ → ℕ
+toClients s = after s 0
+
+abbrev pub toRows : List ℕ → ℕ → ℕ
+toRows s n = place s (toClients s) n
+
+abbrev pub toEnd : List ℕ → ℕ → ℕ → ℕ
+toEnd s f n = place s (toRows s n) (rowsOf f)
+
+-- "one kind 1, then clients 1 to n, then as many kind 3 as f needs, then kind 9"
+unfoldable pub restCheck : List ℕ → ℕ → ℕ → Outcome
+restCheck s f n =
+    orElse (firstOf (clientDue s (toClients s)) n)
+    (orElse (firstOf (rowDue s f n (toRows s n)) (rowsOf f)) (endRead s (toEnd s f n)))
+
+unfoldable pub readCheck : List ℕ → Outcome
+readCheck s = orElse (headCheck s) (restCheck s (getD s 1 0) (getD s 2 0))
+
+-- ---- the plan that a stream holds, 0 past f and past n
+
+unfoldable pub clientIn : List ℕ → ℕ → ℕ → Client
+clientIn s at i = clientAt s (place s at i)
+
+unfoldable pub ownerIn : List ℕ → ℕ → ℕ → ℕ
+ownerIn s at x = getD s (place s at (x / 8) + (1 + x % 8)) 0
+
+unfoldable pub planOf : List ℕ → Plan
+planOf s =
+    record {
+      f = getD s 1 0;
+      n = getD s 2 0;
+      clients = padded (clientIn s (toClients s)) (getD s 2 0) 8 noClient;
+      owners = padded (ownerIn s (toRows s (getD s 2 0))) (getD s 1 0) 64 0;
+    }
+
+-- ---- the answer: "A refused read returns the number, the offset .. and a plan with every number 0"
+
+abbrev pub planIf : Outcome → Plan → Plan
+planIf Fine plan = plan
+planIf (Refused k offset) plan = noPlan
+
+unfoldable pub readOf : List ℕ → Reading
+readOf s = record { outcome = readCheck s; plan = planIf (readCheck s) (planOf s) }

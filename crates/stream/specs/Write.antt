@@ -1,0 +1,85 @@
+-- The stream of a plan, and what a write gives (document 01, Plan stream and Refusal numbers).
+use mathlib.Core.Path.{_≡_}
+use mathlib.Core.List.{List, [], _∷_, _++_}
+use Prim.Native.Nat.{ℕ, _+_, _*_}
+use lib.Dec.{ltb, leb}
+use lib.ListN.{length, drop}
+use Rattle.records.specs.Refusal as refusal
+use Rattle.records.specs.First.{pick, need, orElse}
+use Rattle.records.specs.Pieces.{many, firsts}
+use Rattle.records.specs.Record.{be}
+use Rattle.records.specs.declared.Outcome.{Outcome}
+use Rattle.records.specs.declared.Outcome.the-variants as outcome
+use Rattle.plan.specs.declared.Client.{Client}
+use Rattle.plan.specs.declared.Plan.{Plan}
+use Rattle.plan.specs.Plan.{clientOf, ownerOf}
+use Rattle.plan.specs.Check.{planCheck}
+use Rattle.stream.specs.Kind.{headKind, clientKind, rowKind, endKind, rowsOf}
+use Rattle.stream.specs.declared.Written.{Written}
+use Rattle.stream.specs.declared.Written.the-variants as written
+
+-- ---- the stream
+
+-- kind 1: f, n
+abbrev pub headBytes : Plan → List ℕ
+headBytes plan = headKind ∷ plan .f ∷ plan .n ∷ []
+
+-- kind 2: client number, p, q, a, b
+unfoldable pub clientBytes : ℕ → Client → List ℕ
+clientBytes number c = clientKind ∷ number ∷ be (c .p) ++ be (c .q) ++ be (c .a) ++ be (c .b)
+
+unfoldable pub clientRecord : Plan → ℕ → List ℕ
+clientRecord plan i = clientBytes (i + 1) (clientOf plan i)
+
+-- the owner of slot x; "Places past f in the last kind 3 hold 255"
+unfoldable pub slotByte : Plan → ℕ → ℕ
+slotByte plan x = pick (ltb x (plan .f)) (ownerOf plan x) 255
+
+-- kind 3: the owners of the next eight slots
+unfoldable pub slotIn : Plan → ℕ → ℕ → ℕ
+slotIn plan j t = slotByte plan (8 * j + t)
+
+unfoldable pub rowRecord : Plan → ℕ → List ℕ
+rowRecord plan j = rowKind ∷ firsts (slotIn plan j) 8
+
+-- "one kind 1, then clients 1 to n, then as many kind 3 as f needs, then kind 9"
+unfoldable pub streamOf : Plan → List ℕ
+streamOf plan =
+    headBytes plan ++ many (clientRecord plan) (plan .n) ++ many (rowRecord plan) (rowsOf (plan .f)) ++ (endKind ∷ [])
+
+-- ---- a write into a lent output of this many bytes
+
+-- "All else that takes a plan checks it first .. Then: writing 12"
+unfoldable pub writeCheck : Plan → ℕ → Outcome
+writeCheck plan room = orElse (planCheck plan) (need (leb (length (streamOf plan)) room) refusal.room 0)
+
+-- the answer: the stream's length, or the refusal's number
+abbrev pub writtenBy : Outcome → ℕ → Written
+writtenBy outcome.Fine size = written.Bytes size
+writtenBy (outcome.Refused k offset) size = written.Refused k
+
+unfoldable pub writtenOf : Plan → ℕ → Written
+writtenOf plan room = writtenBy (writeCheck plan room) (length (streamOf plan))
+
+-- the lent bytes after: "A write that succeeds touches only the stream's length of bytes", a refusal "leaves a lent
+-- output untouched"
+abbrev pub bytesBy : Outcome → List ℕ → List ℕ → List ℕ
+bytesBy outcome.Fine stream out = stream ++ drop (length stream) out
+bytesBy (outcome.Refused k offset) stream out = out
+
+unfoldable pub bytesOf : Plan → List ℕ → List ℕ
+bytesOf plan out = bytesBy (writeCheck plan (length out)) (streamOf plan) out
+
+-- what a write into out gives, r, and leaves there, now
+pub record Wrote (plan : Plan) (out : List ℕ) (r : Written) (now : List ℕ) : Type 0 where
+  pub answer : r ≡ writtenOf plan (length out)
+  pub bytes : now ≡ bytesOf plan out
+
+-- the document's number and value of an answer: a refusal has its number and "all other results 0"
+abbrev pub numberOf : Written → ℕ
+numberOf (written.Bytes size) = 0
+numberOf (written.Refused k) = k
+
+abbrev pub sizeOf : Written → ℕ
+sizeOf (written.Bytes size) = size
+sizeOf (written.Refused k) = 0

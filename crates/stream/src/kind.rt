@@ -1,0 +1,49 @@
+// The kinds of a plan stream's records, and the table of their body lengths, which reader and writer share.
+use records::refusal;
+use records::wide;
+ghost use mathlib.Core.Path.{_≡_};
+ghost use Prim.Native.Nat.{_*_, _<_, _≤_};
+ghost use Rattle.stream.specs.Kind.{rowKind, bodyOf, wholeOf, classOf};
+
+pub const HEAD: u8 = 1; // f, n
+
+pub const CLIENT: u8 = 2; // client number, p, q, a, b
+
+pub const ROW: u8 = 3; // owners of the next eight slots
+
+pub const END: u8 = 9; // end
+
+// Body lengths by kind, 0 to 15.
+const BODY: [u8; 16] = [0, 2, 9, 8, 0, 0, 0, 0, 0, 0, 0, 0, 0, 0, 0, 0];
+
+pub fn body_of(kind: u8) -> usize
+    ensures { λ r. ⌜ (r ≡ bodyOf kind) × (r < 256) ⌝ }
+{
+    let k = wide(kind);
+    if k < 16 { wide(BODY[k]) } else { 0 }
+}
+
+// A whole record: one byte of kind, then its body.
+pub fn whole_of(kind: u8) -> usize
+    ensures { λ r. ⌜ (r ≡ wholeOf kind) × (r ≤ 256) ⌝ }
+{
+    1 + body_of(kind)
+}
+
+// The length of k rows.
+pub fn rows_length(k: usize) -> usize
+    requires { ⌜ k ≤ 8 ⌝ }
+    ensures { λ r. ⌜ r ≡ wholeOf rowKind * k ⌝ }
+{
+    whole_of(ROW) * k
+}
+
+// 0 where the kind is due; else the refusal, reserved or known but not due.
+pub fn class_of(due: u8, kind: u8) -> u8
+    ensures { λ r. ⌜ r ≡ classOf due kind ⌝ }
+{
+    match kind {
+        0 | 4..=8 | 10..=255 => refusal::RESERVED,
+        _ => if kind == due { 0 } else { refusal::NOT_DUE },
+    }
+}

@@ -1,0 +1,271 @@
+// The reader: first every check, record by record in the document's order; then the plan that the records hold.
+use super::kind;
+use plan::Client;
+use plan::Plan;
+use plan::inner;
+use records::Outcome;
+use records::check_over;
+use records::check_record;
+use records::inner::word_at;
+use records::kind_at;
+use records::refusal;
+use records::wide;
+ghost use mathlib.Core.Path.{_≡_};
+ghost use Prim.Native.Nat.{_+_, _*_, _<_, _≤_};
+ghost use lib.ListN.{length};
+ghost use Rattle.records.specs.First.{firstOf};
+ghost use Rattle.records.specs.Pieces.{padded};
+ghost use Rattle.records.specs.declared.Outcome.the-variants.{Fine};
+ghost use Rattle.plan.specs.Plan.{noClient};
+ghost use Rattle.stream.specs.Kind.{clientKind, rowKind, wholeOf, rowsOf};
+ghost use Rattle.stream.specs.Read.{after, place, dueCheck, headCheck, clientAt, clientRead, clientDue, slotCheck, slotDue, rowRead, rowDue, endRead, restCheck, readCheck, clientIn, ownerIn, planOf};
+
+// ---- places
+
+// The place after the record at a place.
+fn after(s: &[u8], at: usize) -> usize
+    requires { ⌜ at ≤ 65536 ⌝ }
+    ensures { λ r. ⌜ (r ≡ after (now (s .entry)) at) × (r ≤ at + 256) ⌝ }
+{
+    at + kind::whole_of(kind_at(s, at))
+}
+
+// The place after k records.
+fn place(s: &[u8], at: usize, k: usize) -> usize
+    requires { ⌜ (at ≤ 4096) × (k ≤ 8) ⌝ }
+    ensures { λ r. ⌜ (r ≡ place (now (s .entry)) at k) × (r ≤ at + 256 * k) ⌝ }
+{
+    let mut to = at;
+    let mut i = 0;
+    while i < k {
+        to = after(s, to);
+        i += 1;
+    }
+    to
+}
+
+// ---- checks
+
+// A record where a kind is due: 1, 2, 3, 1.
+fn check_due(s: &[u8], at: usize, due: u8) -> Outcome
+    ensures { λ r. ⌜ r ≡ dueCheck (now (s .entry)) at due ⌝ }
+{
+    let found = kind_at(s, at);
+    check_record(s, at, kind::class_of(due, found), kind::body_of(found))
+}
+
+// The record of f and n: 5, 6.
+fn check_head(s: &[u8]) -> Outcome
+    ensures { λ r. ⌜ r ≡ headCheck (now (s .entry)) ⌝ }
+{
+    let due = check_due(s, 0, kind::HEAD);
+    if let Outcome::Refused(number, offset) = due {
+        return Outcome::Refused(number, offset);
+    }
+    let frame = inner::check_frame(wide(s[1]));
+    if let Outcome::Refused(number, offset) = frame {
+        return Outcome::Refused(number, offset);
+    }
+    inner::check_count(wide(s[2]))
+}
+
+// The requirements in a client's record.
+fn client_at(s: &[u8], at: usize) -> Client
+    requires { ⌜ at + wholeOf clientKind ≤ length (now s) ⌝ }
+    ensures { λ r. ⌜ r ≡ clientAt (now (s .entry)) at ⌝ }
+{
+    Client {
+        p: word_at(s, at + 2),
+        q: word_at(s, at + 4),
+        a: word_at(s, at + 6),
+        b: word_at(s, at + 8),
+    }
+}
+
+// A client's record: 7, 8, 9.
+fn check_client(s: &[u8], at: usize, number: usize) -> Outcome
+    ensures { λ r. ⌜ r ≡ clientRead (now (s .entry)) at number ⌝ }
+{
+    let due = check_due(s, at, kind::CLIENT);
+    if let Outcome::Refused(number, offset) = due {
+        return Outcome::Refused(number, offset);
+    }
+    if wide(s[at + 1]) != number {
+        return Outcome::Refused(refusal::NOT_NEXT, at);
+    }
+    inner::check_client(client_at(s, at), at)
+}
+
+// The records of all clients.
+fn check_clients(s: &[u8], at: usize, n: usize) -> Outcome
+    requires { ⌜ (at ≤ 4096) × (n ≤ 8) ⌝ }
+    ensures { λ r. ⌜ r ≡ firstOf (clientDue (now (s .entry)) at) n ⌝ }
+{
+    let mut to = at;
+    let mut i = 0;
+    while i < n {
+        let outcome = check_client(s, to, i + 1);
+        if let Outcome::Refused(number, offset) = outcome {
+            return Outcome::Refused(number, offset);
+        }
+        to = after(s, to);
+        i += 1;
+    }
+    Outcome::Fine
+}
+
+// The byte of slot x: 10 below f, 11 past it.
+fn check_slot(f: usize, n: usize, x: usize, byte: u8, at: usize) -> Outcome
+    ensures { λ r. ⌜ r ≡ slotCheck f n x byte at ⌝ }
+{
+    if x < f {
+        return inner::check_owner(byte, n, at);
+    }
+    if byte != 255 {
+        return Outcome::Refused(refusal::PAST_FRAME, at);
+    }
+    Outcome::Fine
+}
+
+// The eight bytes of row j.
+fn check_slots(s: &[u8], f: usize, n: usize, at: usize, j: usize) -> Outcome
+    requires { ⌜ (j < 8) × (at + wholeOf rowKind ≤ length (now s)) ⌝ }
+    ensures { λ r. ⌜ r ≡ firstOf (slotDue (now (s .entry)) f n at j) 8 ⌝ }
+{
+    let mut t = 0;
+    while t < 8 {
+        let byte = s[at + (1 + t)];
+        let outcome = check_slot(f, n, 8 * j + t, byte, at);
+        if let Outcome::Refused(number, offset) = outcome {
+            return Outcome::Refused(number, offset);
+        }
+        t += 1;
+    }
+    Outcome::Fine
+}
+
+// The record of row j: 10, 11.
+fn check_row(s: &[u8], f: usize, n: usize, at: usize, j: usize) -> Outcome
+    requires { ⌜ j < 8 ⌝ }
+    ensures { λ r. ⌜ r ≡ rowRead (now (s .entry)) f n at j ⌝ }
+{
+    let due = check_due(s, at, kind::ROW);
+    if let Outcome::Refused(number, offset) = due {
+        return Outcome::Refused(number, offset);
+    }
+    check_slots(s, f, n, at, j)
+}
+
+// The records of all rows.
+fn check_rows(s: &[u8], f: usize, n: usize, at: usize) -> Outcome
+    requires { ⌜ (at ≤ 4096) × (f ≤ 64) ⌝ }
+    ensures { λ r. ⌜ r ≡ firstOf (rowDue (now (s .entry)) f n at) (rowsOf f) ⌝ }
+{
+    let rows = (f + 7) / 8;
+    let mut to = at;
+    let mut j = 0;
+    while j < rows {
+        let outcome = check_row(s, f, n, to, j);
+        if let Outcome::Refused(number, offset) = outcome {
+            return Outcome::Refused(number, offset);
+        }
+        to = after(s, to);
+        j += 1;
+    }
+    Outcome::Fine
+}
+
+// The end record, and nothing after it: 4.
+fn check_end(s: &[u8], at: usize) -> Outcome
+    requires { ⌜ at ≤ 65536 ⌝ }
+    ensures { λ r. ⌜ r ≡ endRead (now (s .entry)) at ⌝ }
+{
+    let due = check_due(s, at, kind::END);
+    if let Outcome::Refused(number, offset) = due {
+        return Outcome::Refused(number, offset);
+    }
+    check_over(s, after(s, at))
+}
+
+// All that follows the head.
+fn check_rest(s: &[u8], f: usize, n: usize) -> Outcome
+    requires { ⌜ (f ≤ 64) × (n ≤ 8) ⌝ }
+    ensures { λ r. ⌜ r ≡ restCheck (now (s .entry)) f n ⌝ }
+{
+    let to_clients = after(s, 0);
+    let clients = check_clients(s, to_clients, n);
+    if let Outcome::Refused(number, offset) = clients {
+        return Outcome::Refused(number, offset);
+    }
+    let to_rows = place(s, to_clients, n);
+    let rows = check_rows(s, f, n, to_rows);
+    if let Outcome::Refused(number, offset) = rows {
+        return Outcome::Refused(number, offset);
+    }
+    check_end(s, place(s, to_rows, (f + 7) / 8))
+}
+
+// The whole stream.
+pub fn check_stream(s: &[u8]) -> Outcome
+    ensures { λ r. ⌜ r ≡ readCheck (now (s .entry)) ⌝ }
+{
+    let head = check_head(s);
+    if let Outcome::Refused(number, offset) = head {
+        return Outcome::Refused(number, offset);
+    }
+    check_rest(s, wide(s[1]), wide(s[2]))
+}
+
+// ---- the plan that the records hold
+
+fn clients_in(s: &[u8], at: usize, n: usize) -> [Client; 8]
+    requires { ⌜ (at ≤ 4096) × (n ≤ 8) × (firstOf (clientDue (now s) at) n ≡ Fine) ⌝ }
+    ensures { λ r. ⌜ r ≡ padded (clientIn (now (s .entry)) at) n 8 noClient ⌝ }
+{
+    let none = Client {
+        p: 0,
+        q: 0,
+        a: 0,
+        b: 0,
+    };
+    let mut clients = [none; 8];
+    let mut to = at;
+    let mut i = 0;
+    while i < n {
+        clients[i] = client_at(s, to);
+        to = after(s, to);
+        i += 1;
+    }
+    clients
+}
+
+fn owners_in(s: &[u8], at: usize, f: usize, n: usize) -> [u8; 64]
+    requires { ⌜ (at ≤ 4096) × (f ≤ 64) × (firstOf (rowDue (now s) f n at) (rowsOf f) ≡ Fine) ⌝ }
+    ensures { λ r. ⌜ r ≡ padded (ownerIn (now (s .entry)) at) f 64 0 ⌝ }
+{
+    let mut owners = [0u8; 64];
+    let mut x = 0;
+    while x < f {
+        owners[x] = s[at + kind::rows_length(x / 8) + (1 + x % 8)];
+        x += 1;
+    }
+    owners
+}
+
+// The plan of a stream that passes.
+pub fn plan_at(s: &[u8]) -> Plan
+    requires { ⌜ readCheck (now s) ≡ Fine ⌝ }
+    ensures { λ r. ⌜ r ≡ planOf (now (s .entry)) ⌝ }
+{
+    let f = wide(s[1]);
+    let n = wide(s[2]);
+    let to_clients = after(s, 0);
+    let clients = clients_in(s, to_clients, n);
+    let owners = owners_in(s, place(s, to_clients, n), f, n);
+    Plan {
+        f: f,
+        n: n,
+        clients: clients,
+        owners: owners,
+    }
+}
