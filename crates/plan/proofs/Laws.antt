@@ -15,7 +15,8 @@ use Rattle.records.proofs.Lists.{get-padded, padded-same}
 use Rattle.plan.specs.declared.Client.{Client}
 use Rattle.plan.specs.declared.Plan.{Plan}
 use Rattle.plan.specs.Plan.{noClient, clientOf, ownerOf, ownOf, Same, used}
-use Rattle.plan.specs.Check.{frameCheck, countCheck, clientCheck, ownerCheck, clientStep, requirementsCheck, ownerStep, ownersCheck, planCheck}
+use Rattle.plan.specs.Check.{frameCheck, countCheck, clientCheck, ownerCheck, clientStep, requirementsCheck}
+use Rattle.plan.specs.Check.{ownerStep, ownersCheck, planCheck}
 
 -- ---- one check
 
@@ -137,7 +138,8 @@ same-used plan other s =
 pub same-check : (plan other : Plan) → Same plan other → planCheck plan ≡ planCheck other
 unfolding planCheck requirementsCheck ownersCheck clientStep ownerStep
 same-check plan other s =
-    let c = first-same (clientStep plan) (clientStep other) (plan .n) (λ i l. ap (λ (x : Client). clientCheck x 0) (s .clients i l)) in
+    let c = first-same (clientStep plan) (clientStep other) (plan .n)
+    (λ i l. ap (λ (x : Client). clientCheck x 0) (s .clients i l)) in
     let o = first-same (ownerStep plan) (ownerStep other) (plan .f) (λ x l. rw (s .owners x l, s .count)) in
     rw (c, o, s .frame, s .count)
 

@@ -18,7 +18,8 @@ countCheck n = need (between 1 n 8) refusal.count 0
 
 -- 8: p is 0, q is 0 or p > q, that is, p is not 1 to q; then 9: b is 0
 unfoldable pub clientCheck : Client → ℕ → Outcome
-clientCheck c offset = orElse (need (between 1 (c .p) (c .q)) refusal.rate offset) (need (leb 1 (c .b)) refusal.latency offset)
+clientCheck c offset = orElse (need (between 1 (c .p) (c .q)) refusal.rate offset)
+    (need (leb 1 (c .b)) refusal.latency offset)
 
 -- 10: an owner exceeds n
 unfoldable pub ownerCheck : ℕ → ℕ → ℕ → Outcome

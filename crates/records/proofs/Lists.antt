@@ -90,4 +90,5 @@ padded-more f n size z h =
     let k : ℕ = size - (n + 1) in
     let e : size - n ≡ suc k = omega (arith, add-one k) in
     rw (e, firsts-more)
-    (set-at (firsts f n) z (replicate k z) (f n) n (length-firsts f n) ∙ sym (append-snoc (firsts f n) (f n) (replicate k z)))
+    (set-at (firsts f n) z (replicate k z) (f n) n (length-firsts f n) ∙ sym
+    (append-snoc (firsts f n) (f n) (replicate k z)))

@@ -26,7 +26,9 @@ use Rattle.plan.specs.Plan.{noClient, clientOf, ownerOf, used}
 use Rattle.plan.specs.Check.{frameCheck, countCheck, clientCheck, planCheck}
 use Rattle.plan.proofs.Laws.{Checked, Required, frame-pass, count-pass, client-pass, owner-pass, plan-fine}
 use Rattle.stream.specs.Kind.{headKind, clientKind, rowKind, endKind, wholeOf, classOf, rowsOf}
-use Rattle.stream.specs.Read.{after, place, dueCheck, headCheck, clientAt, clientRead, clientDue, slotCheck, slotDue, rowRead, rowDue, endRead, toClients, toRows, toEnd, restCheck, readCheck, clientIn, ownerIn, planOf, readOf}
+use Rattle.stream.specs.Read.{after, place, dueCheck, headCheck, clientAt, clientRead, clientDue, slotCheck}
+use Rattle.stream.specs.Read.{slotDue, rowRead, rowDue, endRead, toClients, toRows, toEnd, restCheck, readCheck}
+use Rattle.stream.specs.Read.{clientIn, ownerIn, planOf, readOf}
 use Rattle.stream.specs.Trip.{Words, Held}
 use Rattle.stream.specs.Write.{headBytes, clientBytes, clientRecord, slotByte, slotIn, rowRecord, streamOf}
 use Rattle.stream.proofs.Records.{Whole, due-pass, after-whole}
@@ -44,7 +46,8 @@ byte : (s : List ℕ) (at : ℕ) (r : List ℕ) → Stands s at r → (t : ℕ) 
 byte s at r h t l = part-get s at (length r) r (h .bytes) t l
 
 -- its kind, where it is as long as its kind says
-whole : (s : List ℕ) (at kind : ℕ) (r : List ℕ) → Stands s at r → getD r 0 0 ≡ kind → length r ≡ wholeOf kind → Whole s at kind
+whole : (s : List ℕ) (at kind : ℕ) (r : List ℕ) → Stands s at r → getD r 0 0 ≡ kind → length r ≡ wholeOf kind
+    → Whole s at kind
 whole s at kind r h e n =
     record {
       found = part-first s at (length r) r (h .bytes) (omega (arith, n)) ∙ e;
@@ -52,11 +55,13 @@ whole s at kind r h e n =
     }
 
 -- each of many records, where the ones before it end
-stands-many : (a r : List ℕ) (g : ℕ → List ℕ) (n i : ℕ) → i < n → Stands (a ++ (many g n ++ r)) (length (a ++ many g i)) (g i)
+stands-many : (a r : List ℕ) (g : ℕ → List ℕ) (n i : ℕ) → i < n → Stands (a ++ (many g n ++ r))
+    (length (a ++ many g i)) (g i)
 stands-many a r g n i l = record { bytes = part-many a r g n i l; room = many-room a r g n i l }
 
 -- records that are each as long as their kind says follow one another as `place` has it
-place-many : (a r : List ℕ) (g : ℕ → List ℕ) (n : ℕ) → ((i : ℕ) → length (g i) ≡ wholeOf (getD (g i) 0 0)) → (i : ℕ) → i ≤ n
+place-many : (a r : List ℕ) (g : ℕ → List ℕ) (n : ℕ) → ((i : ℕ) → length (g i) ≡ wholeOf (getD (g i) 0 0)) → (i : ℕ)
+    → i ≤ n
     → place (a ++ (many g n ++ r)) (length a) i ≡ length (a ++ many g i)
 unfolding place many
 place-many a r g n w zero l = ap length (sym (append-nil a))
@@ -70,7 +75,8 @@ place-many a r g n w (suc i) l =
 
 -- ---- a client's record
 
-client-same : (s : List ℕ) (at number : ℕ) (c : Client) → Stands s at (clientBytes number c) → Words c → clientAt s at ≡ c
+client-same : (s : List ℕ) (at number : ℕ) (c : Client) → Stands s at (clientBytes number c) → Words c
+    → clientAt s at ≡ c
 unfolding clientBytes clientAt
 client-same s at number c h w =
     let b : (t : ℕ) → t < wholeOf clientKind → getD s (at + t) 0 ≡ getD (clientBytes number c) t 0 =
@@ -87,7 +93,8 @@ unfolding clientRead clientBytes classOf
 client-forth s at number c h w r =
     let due : dueCheck s at clientKind ≡ Fine =
     due-pass s at clientKind refl (whole s at clientKind (clientBytes number c) h refl (length-client number c)) in
-    let numbered : eqb (getD s (at + 1) 0) number ≡ true = eq-eqb _ _ (byte s at (clientBytes number c) h 1 (omega arith)) in
+    let numbered : eqb (getD s (at + 1) 0) number ≡ true = eq-eqb _ _
+    (byte s at (clientBytes number c) h 1 (omega arith)) in
     let required : clientCheck (clientAt s at) at ≡ Fine = rw (client-same s at number c h w) (client-pass c at r) in
     simp (due, numbered, required)
 
@@ -187,7 +194,8 @@ module _ (plan : Plan) (ok : Checked plan) (held : Held plan) where
       → Stands (streamOf plan) (place (streamOf plan) (toRows (streamOf plan) (plan .n)) j) (rowRecord plan j)
   unfolding rows
   row-stands j l =
-      rw (row-place j (omega arith), from-rows) (stands-many front (endKind ∷ []) (rowRecord plan) (rowsOf (plan .f)) j l)
+      rw (row-place j (omega arith), from-rows) (stands-many front (endKind ∷ []) (rowRecord plan)
+      (rowsOf (plan .f)) j l)
 
   -- where the end record stands
   end-at : toEnd (streamOf plan) (plan .f) (plan .n) ≡ length (front ++ rows)
@@ -226,7 +234,8 @@ module _ (plan : Plan) (ok : Checked plan) (held : Held plan) where
       client-forth (streamOf plan) (place (streamOf plan) (toClients (streamOf plan)) i) (i + 1) (clientOf plan i)
       (client-stands i l) (held i l) (ok .bounds .required i l))
 
-  rows-forth : firstOf (rowDue (streamOf plan) (plan .f) (plan .n) (toRows (streamOf plan) (plan .n))) (rowsOf (plan .f)) ≡ Fine
+  rows-forth : firstOf (rowDue (streamOf plan) (plan .f) (plan .n) (toRows (streamOf plan) (plan .n)))
+      (rowsOf (plan .f)) ≡ Fine
   unfolding rowDue
   rows-forth =
       first-all (rowDue (streamOf plan) (plan .f) (plan .n) (toRows (streamOf plan) (plan .n))) (rowsOf (plan .f))

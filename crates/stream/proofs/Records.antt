@@ -16,7 +16,8 @@ use Rattle.records.specs.declared.Outcome.the-variants.{Fine}
 use Rattle.records.proofs.Checks.{both-fine, need-fine, first-fine, record-fine, record-pass, over-fine}
 use Rattle.plan.proofs.Laws.{Required, frame-fine, count-fine, client-fine}
 use Rattle.stream.specs.Kind.{headKind, clientKind, rowKind, endKind, bodyOf, wholeOf, reserved, classOf, rowsOf}
-use Rattle.stream.specs.Read.{after, place, dueCheck, headCheck, clientAt, clientRead, clientDue, slotDue, rowRead, rowDue, endRead, toClients, toRows, toEnd, restCheck, readCheck}
+use Rattle.stream.specs.Read.{after, place, dueCheck, headCheck, clientAt, clientRead, clientDue, slotDue}
+use Rattle.stream.specs.Read.{rowRead, rowDue, endRead, toClients, toRows, toEnd, restCheck, readCheck}
 
 -- ---- a record where a kind is due
 

@@ -22,7 +22,8 @@ use Rattle.plan.specs.Plan.{noClient, clientOf, ownerOf}
 use Rattle.plan.specs.Check.{planCheck}
 use Rattle.plan.proofs.Laws.{Checked, owner-fine, plan-pass}
 use Rattle.stream.specs.Kind.{headKind, clientKind, rowKind, endKind, wholeOf, rowsOf}
-use Rattle.stream.specs.Read.{place, clientAt, slotCheck, slotDue, toClients, toRows, toEnd, readCheck, clientIn, ownerIn, planOf}
+use Rattle.stream.specs.Read.{place, clientAt, slotCheck, slotDue, toClients, toRows, toEnd, readCheck, clientIn}
+use Rattle.stream.specs.Read.{ownerIn, planOf}
 use Rattle.stream.specs.Write.{headBytes, clientBytes, clientRecord, slotByte, slotIn, rowRecord, streamOf}
 use Rattle.stream.proofs.Records.{ClientFine, RowFine, ReadFine, after-whole, client-at, row-at, read-fine}
 use Rattle.stream.proofs.Lengths.{length-client, length-row}
@@ -65,7 +66,8 @@ module _ (s : List ℕ) (z : ReadFine s) where
   row : (j : ℕ) → j < rowsOf (getD s 1 0) → RowFine s (getD s 1 0) (getD s 2 0) (place s (toRows s (getD s 2 0)) j) j
   row j l = row-at s (getD s 1 0) (getD s 2 0) (toRows s (getD s 2 0)) (rowsOf (getD s 1 0)) (z .rest .rows) j l
 
-  clients-back : Bytes s → many (clientRecord (planOf s)) (getD s 2 0) ++ drop (toRows s (getD s 2 0)) s ≡ drop (toClients s) s
+  clients-back : Bytes s → many (clientRecord (planOf s)) (getD s 2 0) ++ drop (toRows s (getD s 2 0)) s ≡ drop
+      (toClients s) s
   unfolding clientRecord place
   clients-back b =
       many-part (clientRecord (planOf s)) s (place s (toClients s)) (getD s 2 0)
@@ -180,7 +182,8 @@ module _ (s : List ℕ) (z : ReadFine s) where
             λ (x : ℕ) (l : x < f).
             let at : ℕ = place s (toRows s n) (x / 8) in
             let e : 8 * (x / 8) + x % 8 ≡ x = omega arith in
-            let slot = first-fine (slotDue s f n at (x / 8)) 8 (row (x / 8) (omega arith) .slots) (x % 8) (omega arith) in
+            let slot = first-fine (slotDue s f n at (x / 8)) 8 (row (x / 8) (omega arith) .slots) (x % 8)
+            (omega arith) in
             rw (owner-in x l) (owner-fine (getD s (at + (1 + x % 8)) 0) n at (rw (e, lt-ltb x f l) at slot));
       }
 

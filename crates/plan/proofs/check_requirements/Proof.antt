@@ -1,10 +1,10 @@
 -- `plan::check_requirements` meets its contract: the first of its three checks that refuses decides.
 -- Assumes nothing.
 use mathlib.Core.Path.{sym, _∙_}
+use borrow.Author.Needs.{needs}
 use Rattle.records.proofs.Checks.{stops, passes}
 use Rattle.plan.specs.Check.{requirementsCheck}
 use Rattle.plan.proofs.Laws.{count-fine}
-use borrow.Author.Needs.{needs}
 use Rattle.plan.proofs.check_requirements.Statement.{statement}
 use Rattle.plan.proofs.check_requirements.Tie as tie
 
@@ -16,7 +16,9 @@ enum-known-frame c = search needs
 
 returns : tie.Need-returns
 unfolding requirementsCheck
-returns c = stops _ (c .before .before .before .check-frame .ensures) (c .before .frame .given .1)
+returns c =
+    let check-frame = c .before .before .before .check-frame in
+    stops _ (check-frame .ensures) (c .before .frame .given .1)
 
 enum-told : tie.Need-enum-told
 enum-told c = search needs
@@ -30,20 +32,28 @@ enum-known-count c = search needs
 returns-2 : tie.Need-returns-2
 unfolding requirementsCheck
 returns-2 c =
-    passes (c .before .before .before .before .before .before .check-frame .ensures) (c .before .before .before .before .enum-told .given .1) (stops _ (c .before .before .before .check-count .ensures) (c .before .count .given .1))
+    let check-frame = c .before .before .before .before .before .before .check-frame in
+    let enum-told = c .before .before .before .before .enum-told in
+    let check-count = c .before .before .before .check-count in
+    passes (check-frame .ensures) (enum-told .given .1) (stops _ (check-count .ensures) (c .before .count .given .1))
 
 enum-told-2 : tie.Need-enum-told-2
 enum-told-2 c = search needs
 
 check-clients-requires : tie.Need-check-clients-requires
 check-clients-requires c κs =
-    count-fine (c .before .before .before .before .before .before .args .plan .n) (sym (c .before .before .check-count .ensures) ∙ c .enum-told2 .given .1) .1
+    let args = c .before .before .before .before .before .before .args in
+    let check-count = c .before .before .check-count in
+    count-fine (args .plan .n) (sym (check-count .ensures) ∙ c .enum-told2 .given .1) .1
 
 returns-3 : tie.Need-returns-3
 unfolding requirementsCheck
 returns-3 c =
-    passes (c .before .before .before .before .before .before .check-frame .ensures) (c .before .before .before .before .enum-told .given .1)
-    (passes (c .before .before .before .check-count .ensures) (c .before .enum-told2 .given .1) (c .check-clients .ensures))
+    let check-frame = c .before .before .before .before .before .before .check-frame in
+    let enum-told = c .before .before .before .before .enum-told in
+    let check-count = c .before .before .before .check-count in
+    let clients = passes (check-count .ensures) (c .before .enum-told2 .given .1) (c .check-clients .ensures) in
+    passes (check-frame .ensures) (enum-told .given .1) clients
 
 pub check-requirements-spec : {M : Type 1} → statement M
 check-requirements-spec =

@@ -15,7 +15,9 @@ enum-told : tie.Need-enum-told
 enum-told c = search needs
 
 plan-at-requires : tie.Need-plan-at-requires
-plan-at-requires c κs = sym (c .before .before .check-stream .ensures) ∙ c .enum-told .given .1
+plan-at-requires c κs =
+    let check-stream = c .before .before .check-stream in
+    sym (check-stream .ensures) ∙ c .enum-told .given .1
 
 enum-told-2 : tie.Need-enum-told-2
 enum-told-2 c = search needs
@@ -25,13 +27,17 @@ no-plan-requires c κs = search needs
 
 returns : tie.Need-returns
 returns c =
-    let e = read-given _ (c .before .before .before .check-stream .ensures) (c .before .enum-told .given .1) (c .plan-at .ensures) in
-    (e, rewritten _ (λ i. omega (arith, c .before .before .before .before .shared-slice-known .given i)) e)
+    let shared-slice-known = c .before .before .before .before .shared-slice-known in
+    let check-stream = c .before .before .before .check-stream in
+    let e = read-given _ (check-stream .ensures) (c .before .enum-told .given .1) (c .plan-at .ensures) in
+    (e, rewritten _ (λ i. omega (arith, shared-slice-known .given i)) e)
 
 returns-2 : tie.Need-returns-2
 returns-2 c =
-    let e = read-refused _ (c .before .before .before .check-stream .ensures) (c .before .enum-told2 .given .1) (c .no-plan .ensures) in
-    (e, rewritten _ (λ i. omega (arith, c .before .before .before .before .shared-slice-known .given i)) e)
+    let shared-slice-known = c .before .before .before .before .shared-slice-known in
+    let check-stream = c .before .before .before .check-stream in
+    let e = read-refused _ (check-stream .ensures) (c .before .enum-told2 .given .1) (c .no-plan .ensures) in
+    (e, rewritten _ (λ i. omega (arith, shared-slice-known .given i)) e)
 
 pub read-spec : {M : Type 1} → statement M
 read-spec =

@@ -22,28 +22,38 @@ enum-known-outcome c = search needs
 
 returns : tie.Need-returns
 returns c =
-    let plan = c .before .before .before .before .before .args .plan in
-    let out = c .before .before .before .before .before .args .out .now in
-    (plan-refused plan out (sym (c .before .before .before .check .ensures) ∙ c .before .outcome .given .1), not-reread plan _ out)
+    let args = c .before .before .before .before .before .args in
+    let check = c .before .before .before .check in
+    let plan = args .plan in
+    let out = args .out .now in
+    (plan-refused plan out (sym (check .ensures) ∙ c .before .outcome .given .1), not-reread plan _ out)
 
 enum-told : tie.Need-enum-told
 enum-told c = search needs
 
 stream-length-requires : tie.Need-stream-length-requires
 stream-length-requires c κs =
-    let b = plan-fine (c .before .before .before .before .args .plan) (sym (c .before .before .check .ensures) ∙ c .enum-told .given .1) .bounds in
+    let args = c .before .before .before .before .args in
+    let check = c .before .before .check in
+    let b = plan-fine (args .plan) (sym (check .ensures) ∙ c .enum-told .given .1) .bounds in
     (b .f-high, b .n-high)
 
 returns-2 : tie.Need-returns-2
 returns-2 c =
-    let plan = c .before .before .before .before .before .before .args .plan in
-    let out = c .before .before .before .before .before .before .args .out .now in
+    let args = c .before .before .before .before .before .before .args in
+    let check = c .before .before .before .before .check in
+    let enum-told = c .before .before .enum-told in
     let size = c .before .stream-length .ensures in
-    (room-refused plan out (sym (c .before .before .before .before .check .ensures) ∙ c .before .before .enum-told .given .1) (omega arith), not-reread plan _ out)
+    let plan = args .plan in
+    let out = args .out .now in
+    (room-refused plan out (sym (check .ensures) ∙ enum-told .given .1) (omega arith), not-reread plan _ out)
 
 put-stream-requires : tie.Need-put-stream-requires
 put-stream-requires c κs =
-    let b = plan-fine (c .before .before .before .before .before .before .before .args .plan) (sym (c .before .before .before .before .before .check .ensures) ∙ c .before .before .before .enum-told .given .1) .bounds in
+    let args = c .before .before .before .before .before .before .before .args in
+    let check = c .before .before .before .before .before .check in
+    let enum-told = c .before .before .before .enum-told in
+    let b = plan-fine (args .plan) (sym (check .ensures) ∙ enum-told .given .1) .bounds in
     (b .f-high, b .n-high, omega arith)
 
 same-length : tie.Need-same-length
@@ -51,12 +61,17 @@ same-length c = search needs
 
 returns-3 : tie.Need-returns-3
 returns-3 c =
-    let fine = sym (c .before .before .before .before .before .before .before .before .check .ensures) ∙ c .before .before .before .before .before .before .enum-told .given .1 in
-    let plan = c .before .before .before .before .before .before .before .before .before .before .args .plan in
-    let out = c .before .before .before .before .before .before .before .before .before .before .args .out .now in
-    let put = c .before .before .put-stream .ensures in
-    let n : length (streamOf plan) ≤ length out = omega (arith, c .before .before .before .before .before .stream-length .ensures) in
-    let size : c .before .before .put-stream .result ≡ length (streamOf plan) = put .0 .place ∙ zero-add (length (streamOf plan)) in
+    let args = c .before .before .before .before .before .before .before .before .before .before .args in
+    let check = c .before .before .before .before .before .before .before .before .check in
+    let enum-told = c .before .before .before .before .before .before .enum-told in
+    let stream-length = c .before .before .before .before .before .stream-length in
+    let put-stream = c .before .before .put-stream in
+    let fine = sym (check .ensures) ∙ enum-told .given .1 in
+    let plan = args .plan in
+    let out = args .out .now in
+    let put = put-stream .ensures in
+    let n : length (streamOf plan) ≤ length out = omega (arith, stream-length .ensures) in
+    let size : put-stream .result ≡ length (streamOf plan) = put .0 .place ∙ zero-add (length (streamOf plan)) in
     let now = put-front (put .0) n in
     rw (size, now) (given plan out fine n, reread plan (drop (length (streamOf plan)) out) (put .1) fine)
 

@@ -1,7 +1,7 @@
 -- `plan::inner::check_clients` meets its contract: the loop's invariant is that the clients before i pass.
 -- Assumes nothing.
-use mathlib.Core.Path.{_≡_, sym, _∙_}
-use Prim.Native.Nat.{_≤_, _-_}
+use mathlib.Core.Path.{_≡_, sym}
+use Prim.Native.Nat.{_-_, _≤_}
 use native.Mathlib.Omega.{arith}
 use borrow.Author.Needs.{needs}
 use Rattle.records.specs.First.{firstOf}
@@ -36,10 +36,12 @@ enum-known-outcome c = search needs
 returns : tie.Need-returns Inv-loop μ-loop
 unfolding clientStep
 returns c =
+    let args = c .before .before .before .before .before .before .before .args in
+    let check-client = c .before .before .before .check-client in
     let l = c .before .before .before .before .before .before .loop in
-    let plan = c .before .before .before .before .before .before .before .args .t1 in
-    let found = c .before .before .before .check-client .ensures in
-    first-stop (clientStep plan) (plan .n) (l .i) (omega arith) (l .inv .1) found (c .before .outcome .given .1)
+    let plan = args .t1 in
+    first-stop (clientStep plan) (plan .n) (l .i) (omega arith) (l .inv .1) (check-client .ensures)
+    (c .before .outcome .given .1)
 
 enum-told : tie.Need-enum-told Inv-loop μ-loop
 enum-told c = search needs
@@ -53,17 +55,16 @@ loop-less c = search needs
 loop-again : tie.Need-loop-again Inv-loop μ-loop
 unfolding clientStep
 loop-again c =
+    let args = c .before .before .before .before .before .before .args in
+    let check-client = c .before .before .check-client in
     let l = c .before .before .before .before .before .loop in
-    let plan = c .before .before .before .before .before .before .args .t1 in
-    let found = c .before .before .check-client .ensures in
-    (omega arith, first-more (clientStep plan) (l .i) (l .inv .1) found (c .enum-told .given .1))
+    let plan = args .t1 in
+    (omega arith, first-more (clientStep plan) (l .i) (l .inv .1) (check-client .ensures) (c .enum-told .given .1))
 
 returns-2 : tie.Need-returns-2 Inv-loop μ-loop
-unfolding clientStep
 returns-2 c =
-    let l = c .before .loop in
-    let e : l .i ≡ c .before .before .args .t1 .n = omega arith in
-    sym (rw e at (l .inv .1))
+    let args = c .before .before .args in
+    let e : c .before .loop .i ≡ args .t1 .n = omega arith in sym (rw e at (c .before .loop .inv .1))
 
 pub check-clients-spec : {M : Type 1} → statement M
 check-clients-spec =

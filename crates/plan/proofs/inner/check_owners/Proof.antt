@@ -1,7 +1,7 @@
 -- `plan::inner::check_owners` meets its contract: the loop's invariant is that the owners before x pass.
 -- Assumes nothing.
-use mathlib.Core.Path.{_≡_, sym, _∙_}
-use Prim.Native.Nat.{_≤_, _-_}
+use mathlib.Core.Path.{_≡_, sym}
+use Prim.Native.Nat.{_-_, _≤_}
 use native.Mathlib.Omega.{arith}
 use borrow.Author.Needs.{needs}
 use Rattle.records.specs.First.{firstOf}
@@ -33,10 +33,12 @@ enum-known-outcome c = search needs
 returns : tie.Need-returns Inv-loop μ-loop
 unfolding ownerStep ownersCheck
 returns c =
+    let args = c .before .before .before .before .before .before .before .args in
+    let check-owner = c .before .before .before .check-owner in
     let l = c .before .before .before .before .before .before .loop in
-    let plan = c .before .before .before .before .before .before .before .args .t1 in
-    let found = c .before .before .before .check-owner .ensures in
-    first-stop (ownerStep plan) (plan .f) (l .x) (omega arith) (l .inv .1) found (c .before .outcome .given .1)
+    let plan = args .t1 in
+    first-stop (ownerStep plan) (plan .f) (l .x) (omega arith) (l .inv .1) (check-owner .ensures)
+    (c .before .outcome .given .1)
 
 enum-told : tie.Need-enum-told Inv-loop μ-loop
 enum-told c = search needs
@@ -50,17 +52,17 @@ loop-less c = search needs
 loop-again : tie.Need-loop-again Inv-loop μ-loop
 unfolding ownerStep
 loop-again c =
+    let args = c .before .before .before .before .before .before .args in
+    let check-owner = c .before .before .check-owner in
     let l = c .before .before .before .before .before .loop in
-    let plan = c .before .before .before .before .before .before .args .t1 in
-    let found = c .before .before .check-owner .ensures in
-    (omega arith, first-more (ownerStep plan) (l .x) (l .inv .1) found (c .enum-told .given .1))
+    let plan = args .t1 in
+    (omega arith, first-more (ownerStep plan) (l .x) (l .inv .1) (check-owner .ensures) (c .enum-told .given .1))
 
 returns-2 : tie.Need-returns-2 Inv-loop μ-loop
-unfolding ownerStep ownersCheck
+unfolding ownersCheck
 returns-2 c =
-    let l = c .before .loop in
-    let e : l .x ≡ c .before .before .args .t1 .f = omega arith in
-    sym (rw e at (l .inv .1))
+    let args = c .before .before .args in
+    let e : c .before .loop .x ≡ args .t1 .f = omega arith in sym (rw e at (c .before .loop .inv .1))
 
 pub check-owners-spec : {M : Type 1} → statement M
 check-owners-spec =

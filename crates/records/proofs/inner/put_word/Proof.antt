@@ -21,7 +21,9 @@ same-length : tie.Need-same-length
 same-length c = search needs
 
 returns : tie.Need-returns
-returns c = then (c .before .before .before .before .before .before .put-byte .ensures) (c .before .before .put-byte2 .ensures)
+returns c =
+    let put-byte = c .before .before .before .before .before .before .put-byte in
+    then (put-byte .ensures) (c .before .before .put-byte2 .ensures)
 
 pub put-word-spec : {M : Type 1} → statement M
 put-word-spec =

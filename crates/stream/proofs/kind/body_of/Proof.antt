@@ -18,7 +18,9 @@ wide-requires-2 : tie.Need-wide-requires-2
 wide-requires-2 c κs = search needs
 
 returns : tie.Need-returns
-returns c = (c .wide2 .ensures .0 ∙ ap bodyOf (c .before .before .wide .ensures .0), c .wide2 .ensures .1)
+returns c =
+    let wide = c .before .before .wide in
+    (c .wide2 .ensures .0 ∙ ap bodyOf (wide .ensures .0), c .wide2 .ensures .1)
 
 returns-2 : tie.Need-returns-2
 returns-2 c = (sym (List·getD-eq-default bodies 0 {n = c .before .before .args .kind} (omega arith)), omega arith)

@@ -34,8 +34,10 @@ returns-3 c = search tests
 returns-4 : tie.Need-returns-4
 unfolding classOf
 returns-4 c =
-    let k = c .before .before .before .args .kind in
-    simp (ne-eqb k 0 (c .before .before .match .rest .1), le-leb 4 k (omega arith), le-leb k 8 (omega arith))
+    let args = c .before .before .before .args in
+    let match = c .before .before .match in
+    let k = args .kind in
+    simp (ne-eqb k 0 (match .rest .1), le-leb 4 k (omega arith), le-leb k 8 (omega arith))
 
 returns-5 : tie.Need-returns-5
 unfolding classOf

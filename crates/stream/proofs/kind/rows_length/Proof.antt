@@ -11,7 +11,8 @@ whole-of-requires : tie.Need-whole-of-requires
 whole-of-requires c κs = search needs
 
 mul-result : tie.Need-mul-result
-mul-result c = let w : _ ≡ 9 * c .before .args .k = ap (λ (n : ℕ). n * c .before .args .k) (c .whole-of .ensures .0) in omega arith
+mul-result c = let w : _ ≡ 9 * c .before .args .k = ap (λ (n : ℕ). n * c .before .args .k)
+    (c .whole-of .ensures .0) in omega arith
 
 returns : tie.Need-returns
 returns c = ap (λ (n : ℕ). n * c .before .args .k) (c .whole-of .ensures .0)

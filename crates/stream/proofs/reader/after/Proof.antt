@@ -21,9 +21,10 @@ add-result c = search needs
 returns : tie.Need-returns
 unfolding after
 returns c =
+    let args = c .before .before .before .args in
     let w = c .whole-of .ensures in
     let k = c .before .kind-at .ensures in
-    (ap (λ (n : ℕ). c .before .before .before .args .at + n) (w .0 ∙ ap wholeOf k), omega arith)
+    (ap (λ (n : ℕ). args .at + n) (w .0 ∙ ap wholeOf k), omega arith)
 
 pub after-spec : {M : Type 1} → statement M
 after-spec = tie.close (tie.spec kind-at-requires whole-of-requires add-result returns)

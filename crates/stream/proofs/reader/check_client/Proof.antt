@@ -1,4 +1,5 @@
--- `stream::reader::check_client` meets its contract: the record, the number and the requirements are checked in this order.
+-- `stream::reader::check_client` meets its contract: the record, the number and the requirements are
+-- checked in this order.
 -- Assumes nothing.
 use mathlib.Core.Path.{sym, _∙_}
 use native.Mathlib.Omega.{arith}
@@ -19,16 +20,22 @@ enum-known-due c = search needs
 
 returns : tie.Need-returns
 unfolding clientRead
-returns c = stops _ (c .before .before .before .check-due .ensures) (c .before .due .given .1)
+returns c =
+    let check-due = c .before .before .before .check-due in
+    stops _ (check-due .ensures) (c .before .due .given .1)
 
 enum-told : tie.Need-enum-told
 enum-told c = search needs
 
 add-wide : tie.Need-add-wide
-add-wide c = omega (arith, due-found _ _ clientKind (c .before .before .check-due .ensures) (c .enum-told .given .1) .room)
+add-wide c =
+    let check-due = c .before .before .check-due in
+    omega (arith, due-found _ _ clientKind (check-due .ensures) (c .enum-told .given .1) .room)
 
 shared-slice-read-wide : tie.Need-shared-slice-read-wide
-shared-slice-read-wide c = omega (arith, due-found _ _ clientKind (c .before .before .before .check-due .ensures) (c .before .enum-told .given .1) .room)
+shared-slice-read-wide c =
+    let check-due = c .before .before .before .check-due in
+    omega (arith, due-found _ _ clientKind (check-due .ensures) (c .before .enum-told .given .1) .room)
 
 wide-requires : tie.Need-wide-requires
 wide-requires c κs = search needs
@@ -36,11 +43,17 @@ wide-requires c κs = search needs
 returns-2 : tie.Need-returns-2
 unfolding clientRead
 returns-2 c =
+    let args = c .before .before .before .before .before .before .before .args in
+    let check-due = c .before .before .before .before .before .check-due in
+    let enum-told = c .before .before .before .enum-told in
     let b = c .before .wide .ensures .0 in
-    passes (c .before .before .before .before .before .check-due .ensures) (c .before .before .before .enum-told .given .1) (simp (ne-eqb _ (c .before .before .before .before .before .before .before .args .number) (λ e. c .if1 .taken (b ∙ e))))
+    passes (check-due .ensures) (enum-told .given .1) (simp (ne-eqb _ (args .number) (λ e. c .if1 .taken (b ∙ e))))
 
 client-at-requires : tie.Need-client-at-requires
-client-at-requires c κs = due-found _ _ clientKind (c .before .before .before .before .before .check-due .ensures) (c .before .before .before .enum-told .given .1) .room
+client-at-requires c κs =
+    let check-due = c .before .before .before .before .before .check-due in
+    let enum-told = c .before .before .before .enum-told in
+    due-found _ _ clientKind (check-due .ensures) (enum-told .given .1) .room
 
 check-client-requires : tie.Need-check-client-requires
 check-client-requires c κs = search needs
@@ -48,9 +61,15 @@ check-client-requires c κs = search needs
 returns-3 : tie.Need-returns-3
 unfolding clientRead
 returns-3 c =
-    let b = c .before .before .before .wide .ensures .0 in
-    let number = eq-eqb _ (c .before .before .before .before .before .before .before .before .before .args .number) (sym b ∙ c .before .before .if1 .left) in
-    passes (c .before .before .before .before .before .before .before .check-due .ensures) (c .before .before .before .before .before .enum-told .given .1) (rw number (c .check-client .ensures ∙ rw (c .before .client-at .ensures)))
+    let args = c .before .before .before .before .before .before .before .before .before .args in
+    let check-due = c .before .before .before .before .before .before .before .check-due in
+    let enum-told = c .before .before .before .before .before .enum-told in
+    let wide = c .before .before .before .wide in
+    let if1 = c .before .before .if1 in
+    let b = wide .ensures .0 in
+    let number = eq-eqb _ (args .number) (sym b ∙ if1 .left) in
+    passes (check-due .ensures) (enum-told .given .1) (rw number
+    (c .check-client .ensures ∙ rw (c .before .client-at .ensures)))
 
 pub check-client-spec : {M : Type 1} → statement M
 check-client-spec =

@@ -1,4 +1,5 @@
--- `stream::reader::check_clients` meets its contract: the loop's invariant is that the clients before i pass, and where the next one stands.
+-- `stream::reader::check_clients` meets its contract: the loop's invariant is that the clients before i pass,
+-- and where the next one stands.
 -- Assumes nothing.
 use mathlib.Core.Path.{_≡_, sym, _∙_}
 use Prim.Native.Nat.{_+_, _-_, _*_, _≤_}
@@ -34,10 +35,13 @@ enum-known-outcome c = search needs
 returns : tie.Need-returns Inv-loop μ-loop
 unfolding clientDue
 returns c =
+    let loop-test = c .before .before .before .before .loop-test in
+    let check-client = c .before .before .before .check-client in
     let l = c .before .before .before .before .before .loop in
     let a = c .before .before .before .before .before .before .before .args in
-    let found = rw (l .inv .2) at (c .before .before .before .check-client .ensures) in
-    first-stop (clientDue (a .s .now) (a .at)) (a .n) (l .i) (c .before .before .before .before .loop-test .taken) (l .inv .1) found (c .before .outcome .given .1)
+    let found = rw (l .inv .2) at (check-client .ensures) in
+    first-stop (clientDue (a .s .now) (a .at)) (a .n) (l .i) (loop-test .taken) (l .inv .1) found
+    (c .before .outcome .given .1)
 
 enum-told : tie.Need-enum-told Inv-loop μ-loop
 enum-told c = search needs
@@ -54,15 +58,18 @@ loop-less c = search needs
 loop-again : tie.Need-loop-again Inv-loop μ-loop
 unfolding clientDue
 loop-again c =
+    let check-client = c .before .before .before .check-client in
     let l = c .before .before .before .before .before .loop in
     let a = c .before .before .before .before .before .before .before .args in
-    let found = rw (l .inv .2) at (c .before .before .before .check-client .ensures) in
+    let found = rw (l .inv .2) at (check-client .ensures) in
     let next = rw (l .inv .2) at (c .after .ensures .0) in
     let passed = first-more (clientDue (a .s .now) (a .at)) (l .i) (l .inv .1) found (c .before .enum-told .given .1) in
     (omega arith, passed, next ∙ sym (place-more (a .s .now) (a .at) (l .i)), omega arith)
 
 returns-2 : tie.Need-returns-2 Inv-loop μ-loop
-returns-2 c = let e : c .before .loop .i ≡ c .before .before .before .args .n = omega arith in sym (rw e at (c .before .loop .inv .1))
+returns-2 c =
+    let args = c .before .before .before .args in
+    let e : c .before .loop .i ≡ args .n = omega arith in sym (rw e at (c .before .loop .inv .1))
 
 pub check-clients-spec : {M : Type 1} → statement M
 check-clients-spec =

@@ -21,9 +21,11 @@ check-record-requires c κs = search needs
 returns : tie.Need-returns
 unfolding dueCheck
 returns c =
-    let k = c .before .before .before .kind-at .ensures in
-    let class = c .before .before .class-of .ensures in
+    let kind-at = c .before .before .before .kind-at in
+    let class-of = c .before .before .class-of in
     let body = c .before .body-of .ensures .0 in
+    let k = kind-at .ensures in
+    let class = class-of .ensures in
     c .check-record .ensures ∙ rw (class, body, k)
 
 pub check-due-spec : {M : Type 1} → statement M

@@ -15,7 +15,9 @@ enum-known-due c = search needs
 
 returns : tie.Need-returns
 unfolding endRead
-returns c = stops _ (c .before .before .before .check-due .ensures) (c .before .due .given .1)
+returns c =
+    let check-due = c .before .before .before .check-due in
+    stops _ (check-due .ensures) (c .before .due .given .1)
 
 enum-told : tie.Need-enum-told
 enum-told c = search needs
@@ -29,9 +31,11 @@ check-over-requires c κs = search needs
 returns-2 : tie.Need-returns-2
 unfolding endRead
 returns-2 c =
+    let check-due = c .before .before .before .before .check-due in
+    let enum-told = c .before .before .enum-told in
     let over = c .check-over .ensures in
     let next = c .before .after .ensures .0 in
-    passes (c .before .before .before .before .check-due .ensures) (c .before .before .enum-told .given .1) (over ∙ rw next)
+    passes (check-due .ensures) (enum-told .given .1) (over ∙ rw next)
 
 pub check-end-spec : {M : Type 1} → statement M
 check-end-spec =

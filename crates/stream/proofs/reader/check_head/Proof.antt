@@ -17,13 +17,17 @@ enum-known-due c = search needs
 
 returns : tie.Need-returns
 unfolding headCheck
-returns c = stops _ (c .before .before .before .check-due .ensures) (c .before .due .given .1)
+returns c =
+    let check-due = c .before .before .before .check-due in
+    stops _ (check-due .ensures) (c .before .due .given .1)
 
 enum-told : tie.Need-enum-told
 enum-told c = search needs
 
 shared-slice-read-wide : tie.Need-shared-slice-read-wide
-shared-slice-read-wide c = omega (arith, due-found _ 0 headKind (c .before .before .before .check-due .ensures) (c .before .enum-told .given .1) .room)
+shared-slice-read-wide c =
+    let check-due = c .before .before .before .check-due in
+    omega (arith, due-found _ 0 headKind (check-due .ensures) (c .before .enum-told .given .1) .room)
 
 wide-requires : tie.Need-wide-requires
 wide-requires c κs = search needs
@@ -37,15 +41,22 @@ enum-known-frame c = search needs
 returns-2 : tie.Need-returns-2
 unfolding headCheck
 returns-2 c =
-    let f = c .before .before .before .before .wide .ensures .0 in
-    let frame = rw f at (c .before .before .before .check-frame .ensures) in
-    passes (c .before .before .before .before .before .before .before .before .check-due .ensures) (c .before .before .before .before .before .before .enum-told .given .1) (stops _ frame (c .before .frame .given .1))
+    let check-due = c .before .before .before .before .before .before .before .before .check-due in
+    let enum-told = c .before .before .before .before .before .before .enum-told in
+    let wide = c .before .before .before .before .wide in
+    let check-frame = c .before .before .before .check-frame in
+    let f = wide .ensures .0 in
+    let frame = rw f at (check-frame .ensures) in
+    passes (check-due .ensures) (enum-told .given .1) (stops _ frame (c .before .frame .given .1))
 
 enum-told-2 : tie.Need-enum-told-2
 enum-told-2 c = search needs
 
 shared-slice-read-wide-2 : tie.Need-shared-slice-read-wide-2
-shared-slice-read-wide-2 c = omega (arith, due-found _ 0 headKind (c .before .before .before .before .before .before .before .before .check-due .ensures) (c .before .before .before .before .before .before .enum-told .given .1) .room)
+shared-slice-read-wide-2 c =
+    let check-due = c .before .before .before .before .before .before .before .before .check-due in
+    let enum-told = c .before .before .before .before .before .before .enum-told in
+    omega (arith, due-found _ 0 headKind (check-due .ensures) (enum-told .given .1) .room)
 
 wide-requires-2 : tie.Need-wide-requires-2
 wide-requires-2 c κs = search needs
@@ -56,11 +67,16 @@ check-count-requires c κs = search needs
 returns-3 : tie.Need-returns-3
 unfolding headCheck
 returns-3 c =
-    let f = c .before .before .before .before .before .before .wide .ensures .0 in
+    let check-due = c .before .before .before .before .before .before .before .before .before .before .check-due in
+    let enum-told = c .before .before .before .before .before .before .before .before .enum-told in
+    let wide = c .before .before .before .before .before .before .wide in
+    let check-frame = c .before .before .before .before .before .check-frame in
+    let enum-told2 = c .before .before .before .enum-told2 in
     let n = c .before .wide2 .ensures .0 in
-    let frame = rw f at (c .before .before .before .before .before .check-frame .ensures) in
+    let f = wide .ensures .0 in
+    let frame = rw f at (check-frame .ensures) in
     let count = rw n at (c .check-count .ensures) in
-    passes (c .before .before .before .before .before .before .before .before .before .before .check-due .ensures) (c .before .before .before .before .before .before .before .before .enum-told .given .1) (passes frame (c .before .before .before .enum-told2 .given .1) count)
+    passes (check-due .ensures) (enum-told .given .1) (passes frame (enum-told2 .given .1) count)
 
 pub check-head-spec : {M : Type 1} → statement M
 check-head-spec =

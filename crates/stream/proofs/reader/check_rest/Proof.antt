@@ -1,4 +1,5 @@
--- `stream::reader::check_rest` meets its contract: the clients decide where one is refused, then the rows, then the end.
+-- `stream::reader::check_rest` meets its contract: the clients decide where one is refused, then the rows,
+-- then the end.
 -- Assumes nothing.
 use borrow.Author.Needs.{needs}
 use Rattle.records.proofs.Checks.{stops, passes}
@@ -17,7 +18,10 @@ enum-known-clients c = search needs
 
 returns : tie.Need-returns
 unfolding restCheck
-returns c = stops _ (rw (c .before .before .before .before .after .ensures .0) at (c .before .before .before .check-clients .ensures)) (c .before .clients .given .1)
+returns c =
+    let after′ = c .before .before .before .before .after in
+    let check-clients = c .before .before .before .check-clients in
+    stops _ (rw (after′ .ensures .0) at (check-clients .ensures)) (c .before .clients .given .1)
 
 enum-told : tie.Need-enum-told
 enum-told c = search needs
@@ -34,9 +38,14 @@ enum-known-rows c = search needs
 returns-2 : tie.Need-returns-2
 unfolding restCheck
 returns-2 c =
-    let clients = rw (c .before .before .before .before .before .before .before .before .after .ensures .0) at (c .before .before .before .before .before .before .before .check-clients .ensures) in
-    let rows = rw (c .before .before .before .before .place .ensures .0, c .before .before .before .before .before .before .before .before .after .ensures .0) at (c .before .before .before .check-rows .ensures) in
-    passes clients (c .before .before .before .before .before .enum-told .given .1) (stops _ rows (c .before .rows .given .1))
+    let after′ = c .before .before .before .before .before .before .before .before .after in
+    let check-clients = c .before .before .before .before .before .before .before .check-clients in
+    let enum-told = c .before .before .before .before .before .enum-told in
+    let place′ = c .before .before .before .before .place in
+    let check-rows = c .before .before .before .check-rows in
+    let clients = rw (after′ .ensures .0) at (check-clients .ensures) in
+    let rows = rw (place′ .ensures .0, after′ .ensures .0) at (check-rows .ensures) in
+    passes clients (enum-told .given .1) (stops _ rows (c .before .rows .given .1))
 
 enum-told-2 : tie.Need-enum-told-2
 enum-told-2 c = search needs
@@ -53,10 +62,16 @@ check-end-requires c κs = search needs
 returns-3 : tie.Need-returns-3
 unfolding restCheck
 returns-3 c =
-    let clients = rw (c .before .before .before .before .before .before .before .before .before .after .ensures .0) at (c .before .before .before .before .before .before .before .before .check-clients .ensures) in
-    let rows = rw (c .before .before .before .before .before .place .ensures .0, c .before .before .before .before .before .before .before .before .before .after .ensures .0) at (c .before .before .before .before .check-rows .ensures) in
-    let end = rw (c .before .place2 .ensures .0, c .before .before .before .before .before .place .ensures .0, c .before .before .before .before .before .before .before .before .before .after .ensures .0) at (c .check-end .ensures) in
-    passes clients (c .before .before .before .before .before .before .enum-told .given .1) (passes rows (c .before .before .enum-told2 .given .1) end)
+    let after′ = c .before .before .before .before .before .before .before .before .before .after in
+    let check-clients = c .before .before .before .before .before .before .before .before .check-clients in
+    let enum-told = c .before .before .before .before .before .before .enum-told in
+    let place′ = c .before .before .before .before .before .place in
+    let check-rows = c .before .before .before .before .check-rows in
+    let enum-told2 = c .before .before .enum-told2 in
+    let clients = rw (after′ .ensures .0) at (check-clients .ensures) in
+    let rows = rw (place′ .ensures .0, after′ .ensures .0) at (check-rows .ensures) in
+    let end = rw (c .before .place2 .ensures .0, place′ .ensures .0, after′ .ensures .0) at (c .check-end .ensures) in
+    passes clients (enum-told .given .1) (passes rows (enum-told2 .given .1) end)
 
 pub check-rest-spec : {M : Type 1} → statement M
 check-rest-spec =

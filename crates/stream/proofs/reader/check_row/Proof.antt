@@ -16,17 +16,23 @@ enum-known-due c = search needs
 
 returns : tie.Need-returns
 unfolding rowRead
-returns c = stops _ (c .before .before .before .check-due .ensures) (c .before .due .given .1)
+returns c =
+    let check-due = c .before .before .before .check-due in
+    stops _ (check-due .ensures) (c .before .due .given .1)
 
 enum-told : tie.Need-enum-told
 enum-told c = search needs
 
 check-slots-requires : tie.Need-check-slots-requires
-check-slots-requires c κs = (search needs, due-found _ _ rowKind (c .before .before .check-due .ensures) (c .enum-told .given .1) .room)
+check-slots-requires c κs =
+    let check-due = c .before .before .check-due in
+    (search needs, due-found _ _ rowKind (check-due .ensures) (c .enum-told .given .1) .room)
 
 returns-2 : tie.Need-returns-2
 unfolding rowRead
-returns-2 c = passes (c .before .before .before .check-due .ensures) (c .before .enum-told .given .1) (c .check-slots .ensures)
+returns-2 c =
+    let check-due = c .before .before .before .check-due in
+    passes (check-due .ensures) (c .before .enum-told .given .1) (c .check-slots .ensures)
 
 pub check-row-spec : {M : Type 1} → statement M
 check-row-spec =

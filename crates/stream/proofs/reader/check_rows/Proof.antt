@@ -1,4 +1,5 @@
--- `stream::reader::check_rows` meets its contract: the loop's invariant is that the rows before j pass, and where the next one stands.
+-- `stream::reader::check_rows` meets its contract: the loop's invariant is that the rows before j pass,
+-- and where the next one stands.
 -- Assumes nothing.
 use mathlib.Core.Path.{_≡_, sym, _∙_}
 use Prim.Native.Nat.{_+_, _-_, _*_, _≤_}
@@ -14,7 +15,8 @@ use Rattle.stream.proofs.reader.check_rows.Statement.{statement}
 use Rattle.stream.proofs.reader.check_rows.Tie as tie
 
 abbrev Inv-loop : tie.InvT-loop
-Inv-loop s f n at rows to₀ j₀ to j = (j ≤ rows) × (firstOf (rowDue s f n at) j ≡ Fine) × (to ≡ place s at j) × (to ≤ at + 256 * j)
+Inv-loop s f n at rows to₀ j₀ to j = (j ≤ rows) × (firstOf (rowDue s f n at) j ≡ Fine) × (to ≡ place s at j) ×
+    (to ≤ at + 256 * j)
 
 abbrev μ-loop : tie.MeasureT-loop
 μ-loop s f n at rows to₀ j₀ to j = rows - j
@@ -35,11 +37,13 @@ enum-known-outcome c = search needs
 returns : tie.Need-returns Inv-loop μ-loop
 unfolding rowDue
 returns c =
+    let loop-test = c .before .before .before .before .loop-test in
+    let check-row = c .before .before .before .check-row in
     let l = c .before .before .before .before .before .loop in
     let a = c .before .before .before .before .before .before .before .args in
-    let found = rw (l .inv .2) at (c .before .before .before .check-row .ensures) in
+    let found = rw (l .inv .2) at (check-row .ensures) in
     let g = rowDue (a .s .now) (a .f) (a .n) (a .at) in
-    first-stop g (rowsOf (a .f)) (l .j) (c .before .before .before .before .loop-test .taken) (l .inv .1) found (c .before .outcome .given .1)
+    first-stop g (rowsOf (a .f)) (l .j) (loop-test .taken) (l .inv .1) found (c .before .outcome .given .1)
 
 enum-told : tie.Need-enum-told Inv-loop μ-loop
 enum-told c = search needs
@@ -56,15 +60,19 @@ loop-less c = search needs
 loop-again : tie.Need-loop-again Inv-loop μ-loop
 unfolding rowDue
 loop-again c =
+    let check-row = c .before .before .before .check-row in
     let l = c .before .before .before .before .before .loop in
     let a = c .before .before .before .before .before .before .before .args in
-    let found = rw (l .inv .2) at (c .before .before .before .check-row .ensures) in
+    let found = rw (l .inv .2) at (check-row .ensures) in
     let next = rw (l .inv .2) at (c .after .ensures .0) in
-    let passed = first-more (rowDue (a .s .now) (a .f) (a .n) (a .at)) (l .j) (l .inv .1) found (c .before .enum-told .given .1) in
+    let passed = first-more (rowDue (a .s .now) (a .f) (a .n) (a .at)) (l .j) (l .inv .1) found
+    (c .before .enum-told .given .1) in
     (omega arith, passed, next ∙ sym (place-more (a .s .now) (a .at) (l .j)), omega arith)
 
 returns-2 : tie.Need-returns-2 Inv-loop μ-loop
-returns-2 c = let e : c .before .loop .j ≡ rowsOf (c .before .before .before .args .f) = omega arith in sym (rw e at (c .before .loop .inv .1))
+returns-2 c =
+    let args = c .before .before .before .args in
+    let e : c .before .loop .j ≡ rowsOf (args .f) = omega arith in sym (rw e at (c .before .loop .inv .1))
 
 pub check-rows-spec : {M : Type 1} → statement M
 check-rows-spec =

@@ -45,10 +45,12 @@ enum-known-outcome c = search needs
 returns : tie.Need-returns Inv-loop μ-loop
 unfolding slotDue
 returns c =
+    let loop-test = c .before .before .before .before .before .loop-test in
+    let check-slot = c .before .before .before .check-slot in
     let a = c .before .before .before .before .before .before .before .before .args in
     let l = c .before .before .before .before .before .before .loop in
     let g = slotDue (a .s .now) (a .f) (a .n) (a .at) (a .j) in
-    first-stop g 8 (l .t) (c .before .before .before .before .before .loop-test .taken) (l .inv .1) (c .before .before .before .check-slot .ensures) (c .before .outcome .given .1)
+    first-stop g 8 (l .t) (loop-test .taken) (l .inv .1) (check-slot .ensures) (c .before .outcome .given .1)
 
 enum-told : tie.Need-enum-told Inv-loop μ-loop
 enum-told c = search needs
@@ -62,10 +64,11 @@ loop-less c = search needs
 loop-again : tie.Need-loop-again Inv-loop μ-loop
 unfolding slotDue
 loop-again c =
+    let check-slot = c .before .before .check-slot in
     let a = c .before .before .before .before .before .before .before .args in
     let l = c .before .before .before .before .before .loop in
     let g = slotDue (a .s .now) (a .f) (a .n) (a .at) (a .j) in
-    (omega arith, first-more g (l .t) (l .inv .1) (c .before .before .check-slot .ensures) (c .enum-told .given .1))
+    (omega arith, first-more g (l .t) (l .inv .1) (check-slot .ensures) (c .enum-told .given .1))
 
 returns-2 : tie.Need-returns-2 Inv-loop μ-loop
 returns-2 c = let e : c .before .loop .t ≡ 8 = omega arith in sym (rw e at (c .before .loop .inv .1))

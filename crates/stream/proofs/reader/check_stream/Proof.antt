@@ -16,33 +16,45 @@ enum-known-head c = search needs
 
 returns : tie.Need-returns
 unfolding readCheck
-returns c = stops _ (c .before .before .before .check-head .ensures) (c .before .head .given .1)
+returns c =
+    let check-head = c .before .before .before .check-head in
+    stops _ (check-head .ensures) (c .before .head .given .1)
 
 enum-told : tie.Need-enum-told
 enum-told c = search needs
 
 shared-slice-read-wide : tie.Need-shared-slice-read-wide
-shared-slice-read-wide c = omega (arith, head-found _ (c .before .before .before .check-head .ensures) (c .before .enum-told .given .1) .whole .room)
+shared-slice-read-wide c =
+    let check-head = c .before .before .before .check-head in
+    omega (arith, head-found _ (check-head .ensures) (c .before .enum-told .given .1) .whole .room)
 
 wide-requires : tie.Need-wide-requires
 wide-requires c κs = search needs
 
 shared-slice-read-wide-2 : tie.Need-shared-slice-read-wide-2
-shared-slice-read-wide-2 c = omega (arith, head-found _ (c .before .before .before .before .before .check-head .ensures) (c .before .before .before .enum-told .given .1) .whole .room)
+shared-slice-read-wide-2 c =
+    let check-head = c .before .before .before .before .before .check-head in
+    let enum-told = c .before .before .before .enum-told in
+    omega (arith, head-found _ (check-head .ensures) (enum-told .given .1) .whole .room)
 
 wide-requires-2 : tie.Need-wide-requires-2
 wide-requires-2 c κs = search needs
 
 check-rest-requires : tie.Need-check-rest-requires
 check-rest-requires c κs =
-    let head = head-found _ (c .before .before .before .before .before .before .check-head .ensures) (c .before .before .before .before .enum-told .given .1) in
+    let check-head = c .before .before .before .before .before .before .check-head in
+    let enum-told = c .before .before .before .before .enum-told in
+    let head = head-found _ (check-head .ensures) (enum-told .given .1) in
     (omega arith, omega arith)
 
 returns-2 : tie.Need-returns-2
 unfolding readCheck
 returns-2 c =
-    let rest = rw (c .before .before .before .wide .ensures .0, c .before .wide2 .ensures .0) at (c .check-rest .ensures) in
-    passes (c .before .before .before .before .before .before .before .check-head .ensures) (c .before .before .before .before .before .enum-told .given .1) rest
+    let check-head = c .before .before .before .before .before .before .before .check-head in
+    let enum-told = c .before .before .before .before .before .enum-told in
+    let wide = c .before .before .before .wide in
+    let rest = rw (wide .ensures .0, c .before .wide2 .ensures .0) at (c .check-rest .ensures) in
+    passes (check-head .ensures) (enum-told .given .1) rest
 
 pub check-stream-spec : {M : Type 1} → statement M
 check-stream-spec =

@@ -1,4 +1,5 @@
--- `stream::reader::clients_in` meets its contract: the loop's invariant is the array whose first i clients are filled in.
+-- `stream::reader::clients_in` meets its contract: the loop's invariant is the array whose first i clients
+-- are filled in.
 -- Assumes nothing.
 use mathlib.Core.Path.{_≡_, refl, sym, _∙_}
 use Prim.Native.Nat.{_+_, _-_, _*_, _≤_}
@@ -13,7 +14,8 @@ use Rattle.stream.proofs.reader.clients_in.Statement.{statement}
 use Rattle.stream.proofs.reader.clients_in.Tie as tie
 
 abbrev Inv-loop : tie.InvT-loop
-Inv-loop s at n clients₀ to₀ i₀ clients to i = (i ≤ n) × (clients ≡ padded (clientIn s at) i 8 noClient) × (to ≡ place s at i) × (to ≤ at + 256 * i)
+Inv-loop s at n clients₀ to₀ i₀ clients to i = (i ≤ n) × (clients ≡ padded (clientIn s at) i 8 noClient) ×
+    (to ≡ place s at i) × (to ≤ at + 256 * i)
 
 abbrev μ-loop : tie.MeasureT-loop
 μ-loop s at n clients₀ to₀ i₀ clients to i = n - i
@@ -26,9 +28,10 @@ loop-holds c =
 
 client-at-requires : tie.Need-client-at-requires Inv-loop μ-loop
 client-at-requires c κs =
+    let pre = c .before .before .before .pre in
     let a = c .before .before .before .args in
     let l = c .before .loop in
-    let client = client-at (a .s .now) (a .at) (a .n) (c .before .before .before .pre .2) (l .i) (c .loop-test .taken) in
+    let client = client-at (a .s .now) (a .at) (a .n) (pre .2) (l .i) (c .loop-test .taken) in
     rw (l .inv .2) (client .whole .room)
 
 mul-clients : tie.Need-mul-clients Inv-loop μ-loop
@@ -57,7 +60,9 @@ loop-again c =
     (omega arith, rw (l .inv .1, client) more, next ∙ sym (place-more (a .s .now) (a .at) (l .i)), omega arith)
 
 returns : tie.Need-returns Inv-loop μ-loop
-returns c = let e : c .before .loop .i ≡ c .before .before .before .args .n = omega arith in rw e at (c .before .loop .inv .1)
+returns c =
+    let args = c .before .before .before .args in
+    let e : c .before .loop .i ≡ args .n = omega arith in rw e at (c .before .loop .inv .1)
 
 pub clients-in-spec : {M : Type 1} → statement M
 clients-in-spec =

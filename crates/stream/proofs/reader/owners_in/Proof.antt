@@ -1,5 +1,5 @@
--- `stream::reader::owners_in` meets its contract: the loop's invariant is the array whose first x owners are filled in. Rows are of one
--- length, so slot x stands in the row that x / 8 rows precede.
+-- `stream::reader::owners_in` meets its contract: the loop's invariant is the array whose first x owners are
+-- filled in. Rows are of one length, so slot x stands in the row that x / 8 rows precede.
 -- Assumes nothing.
 use mathlib.Core.Path.{_≡_}
 use Prim.Native.Nat.{_-_, _/_, _≤_}
@@ -36,10 +36,12 @@ add-owners-3 c = search needs
 
 shared-slice-read-owners : tie.Need-shared-slice-read-owners Inv-loop μ-loop
 shared-slice-read-owners c =
+    let pre = c .before .before .before .before .before .pre in
+    let loop = c .before .before .before .loop in
     let a = c .before .before .before .before .before .args in
-    let x = c .before .before .before .loop .x in
-    let there = row-place (a .s .now) (a .f) (a .n) (a .at) (rowsOf (a .f)) (c .before .before .before .before .before .pre .2) (x / 8) (omega arith) in
-    let row = row-at (a .s .now) (a .f) (a .n) (a .at) (rowsOf (a .f)) (c .before .before .before .before .before .pre .2) (x / 8) (omega arith) in
+    let x = loop .x in
+    let there = row-place (a .s .now) (a .f) (a .n) (a .at) (rowsOf (a .f)) (pre .2) (x / 8) (omega arith) in
+    let row = row-at (a .s .now) (a .f) (a .n) (a .at) (rowsOf (a .f)) (pre .2) (x / 8) (omega arith) in
     omega (arith, row .whole .room)
 
 array-write-owners : tie.Need-array-write-owners Inv-loop μ-loop
@@ -54,14 +56,17 @@ loop-less c = search needs
 loop-again : tie.Need-loop-again Inv-loop μ-loop
 unfolding ownerIn
 loop-again c =
+    let pre = c .before .before .before .before .before .pre in
     let a = c .before .before .before .before .before .args in
     let l = c .before .before .before .loop in
-    let there = row-place (a .s .now) (a .f) (a .n) (a .at) (rowsOf (a .f)) (c .before .before .before .before .before .pre .2) (l .x / 8) (omega arith) in
+    let there = row-place (a .s .now) (a .f) (a .n) (a .at) (rowsOf (a .f)) (pre .2) (l .x / 8) (omega arith) in
     let more = padded-more (ownerIn (a .s .now) (a .at)) (l .x) 64 0 (omega arith) in
     (omega arith, rw (l .inv .1, c .before .rows-length .ensures, ← there) more)
 
 returns : tie.Need-returns Inv-loop μ-loop
-returns c = let e : c .before .loop .x ≡ c .before .before .before .args .f = omega arith in rw e at (c .before .loop .inv .1)
+returns c =
+    let args = c .before .before .before .args in
+    let e : c .before .loop .x ≡ args .f = omega arith in rw e at (c .before .loop .inv .1)
 
 pub owners-in-spec : {M : Type 1} → statement M
 owners-in-spec =

@@ -29,10 +29,18 @@ loop-less : tie.Need-loop-less Inv-loop μ-loop
 loop-less c = search needs
 
 loop-again : tie.Need-loop-again Inv-loop μ-loop
-loop-again c = (omega arith, rw (c .before .before .loop .inv .1) at (c .after .ensures .0) ∙ sym (place-more _ _ (c .before .before .loop .i)), omega arith)
+loop-again c =
+    let loop = c .before .before .loop in
+    (omega arith, rw (loop .inv .1) at (c .after .ensures .0) ∙ sym (place-more _ _ (loop .i)), omega arith)
 
 returns : tie.Need-returns Inv-loop μ-loop
-returns c = let e : c .before .loop .i ≡ c .before .before .before .args .k = omega arith in (rw e at (c .before .loop .inv .1), rw e at (c .before .loop .inv .2))
+returns c =
+    let args = c .before .before .before .args in
+    let e : c .before .loop .i ≡ args .k = omega arith in (
+      rw e at (c .before .loop .inv .1),
+      rw e at
+          (c .before .loop .inv .2),
+    )
 
 pub place-spec : {M : Type 1} → statement M
 place-spec =

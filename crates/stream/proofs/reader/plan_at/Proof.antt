@@ -1,4 +1,5 @@
--- `stream::reader::plan_at` meets its contract: a stream that passes has its clients and its rows where they are looked for.
+-- `stream::reader::plan_at` meets its contract: a stream that passes has its clients and its rows where they
+-- are looked for.
 -- Assumes nothing.
 use native.Mathlib.Omega.{arith}
 use borrow.Author.Needs.{needs}
@@ -24,26 +25,42 @@ after-requires c κs = search needs
 
 clients-in-requires : tie.Need-clients-in-requires
 clients-in-requires c κs =
-    let s = read-fine _ (c .before .before .before .before .before .before .pre) in
+    let pre = c .before .before .before .before .before .before .pre in
+    let s = read-fine _ (pre) in
     (omega arith, omega (arith, s .head), rw (c .after .ensures .0, c .before .wide2 .ensures .0) (s .rest .clients))
 
 place-requires : tie.Need-place-requires
-place-requires c κs = (omega arith, omega (arith, read-fine _ (c .before .before .before .before .before .before .before .pre) .head))
+place-requires c κs = (
+  omega arith,
+  omega (
+    arith,
+    read-fine _
+        (c .before .before .before .before .before .before .before .pre) .head,
+  ),
+)
 
 owners-in-requires : tie.Need-owners-in-requires
 owners-in-requires c κs =
-    let s = read-fine _ (c .before .before .before .before .before .before .before .before .pre) in
-    let at = rw (c .before .before .after .ensures .0, c .before .before .before .wide2 .ensures .0) at (c .place .ensures .0) in
-    (omega (arith, s .head), omega (arith, s .head), rw (at, c .before .before .before .before .before .wide .ensures .0, c .before .before .before .wide2 .ensures .0) (s .rest .rows))
+    let pre = c .before .before .before .before .before .before .before .before .pre in
+    let wide = c .before .before .before .before .before .wide in
+    let wide2 = c .before .before .before .wide2 in
+    let after′ = c .before .before .after in
+    let s = read-fine _ (pre) in
+    let at = rw (after′ .ensures .0, wide2 .ensures .0) at (c .place .ensures .0) in
+    (omega (arith, s .head), omega (arith, s .head), rw (at, wide .ensures .0, wide2 .ensures .0) (s .rest .rows))
 
 returns : tie.Need-returns
 unfolding planOf
 returns c =
-    let at = c .before .before .before .after .ensures .0 in
+    let wide = c .before .before .before .before .before .before .wide in
+    let wide2 = c .before .before .before .before .wide2 in
+    let after′ = c .before .before .before .after in
+    let clients-in = c .before .before .clients-in in
     let rows = c .before .place .ensures .0 in
-    let f = c .before .before .before .before .before .before .wide .ensures .0 in
-    let n = c .before .before .before .before .wide2 .ensures .0 in
-    rw (c .owners-in .ensures, c .before .before .clients-in .ensures, rows, at, f, n)
+    let at = after′ .ensures .0 in
+    let f = wide .ensures .0 in
+    let n = wide2 .ensures .0 in
+    rw (c .owners-in .ensures, clients-in .ensures, rows, at, f, n)
 
 pub plan-at-spec : {M : Type 1} → statement M
 plan-at-spec =

@@ -35,7 +35,8 @@ loop-again c = let w = c .whole-of .ensures .0 in (omega arith, omega arith)
 
 returns : tie.Need-returns Inv-loop μ-loop
 returns c =
-    let plan = c .before .before .args .plan in
+    let args = c .before .before .args in
+    let plan = args .plan in
     let e = length-clients plan (plan .n) in
     (omega arith, omega arith)
 

@@ -35,9 +35,16 @@ same-length c = search needs
 returns : tie.Need-returns
 unfolding clientBytes
 returns c =
-    let number = then (c .before .before .before .before .before .before .before .before .before .before .before .before .before .before .before .before .before .before .before .before .before .before .put-byte .ensures) (c .before .before .before .before .before .before .before .before .before .before .before .before .before .before .before .before .before .before .put-byte2 .ensures) in
-    let rate = then (then number (c .before .before .before .before .before .before .before .before .before .before .before .before .before .before .put-word .ensures)) (c .before .before .before .before .before .before .before .before .before .before .put-word2 .ensures) in
-    (then (then rate (c .before .before .before .before .before .before .put-word3 .ensures)) (c .before .before .put-word4 .ensures), words (c .before .before .before .before .before .before .before .before .before .before .before .before .before .before .before .before .before .before .before .before .before .before .before .before .before))
+    let at-put-word4 = c .before .before in
+    let at-put-word3 = at-put-word4 .before .before .before .before in
+    let at-put-word2 = at-put-word3 .before .before .before .before in
+    let at-put-word = at-put-word2 .before .before .before .before in
+    let at-put-byte2 = at-put-word .before .before .before .before in
+    let at-put-byte = at-put-byte2 .before .before .before .before in
+    let at-start = at-put-byte .before .before .before in
+    let number = then (at-put-byte .put-byte .ensures) (at-put-byte2 .put-byte2 .ensures) in
+    let rate = then (then number (at-put-word .put-word .ensures)) (at-put-word2 .put-word2 .ensures) in
+    (then (then rate (at-put-word3 .put-word3 .ensures)) (at-put-word4 .put-word4 .ensures), words (at-start))
 
 pub put-client-spec : {M : Type 1} → statement M
 put-client-spec =

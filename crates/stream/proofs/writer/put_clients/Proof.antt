@@ -18,7 +18,8 @@ use Rattle.stream.proofs.writer.put_clients.Statement.{statement}
 use Rattle.stream.proofs.writer.put_clients.Tie as tie
 
 abbrev Inv-loop : tie.InvT-loop
-Inv-loop out₀ at plan n to₀ i₀ out to i = (i ≤ n) × Put out₀ at (many (clientRecord plan) i) out to × ((k : ℕ) → k < i → Words (clientOf plan k))
+Inv-loop out₀ at plan n to₀ i₀ out to i = (i ≤ n) × Put out₀ at (many (clientRecord plan) i) out to ×
+    ((k : ℕ) → k < i → Words (clientOf plan k))
 
 abbrev μ-loop : tie.MeasureT-loop
 μ-loop out₀ at plan n to₀ i₀ out to i = n - i
@@ -42,9 +43,11 @@ cast-put-client c = search needs
 put-client-requires : tie.Need-put-client-requires Inv-loop μ-loop
 unfolding clientRecord
 put-client-requires c κs =
+    let args = c .before .before .before .before .before .args in
+    let loop-test = c .before .before .loop-test in
     let l = c .before .before .before .loop in
-    let plan = c .before .before .before .before .before .args .t3 in
-    let w = within-many (clientRecord plan) (plan .n) (l .i) (c .before .before .loop-test .taken) in
+    let plan = args .t3 in
+    let w = within-many (clientRecord plan) (plan .n) (l .i) (loop-test .taken) in
     omega (arith, l .inv .1 .place, put-length (l .inv .1), length-client (l .i + 1) (clientOf plan (l .i)))
 
 add-i : tie.Need-add-i Inv-loop μ-loop
@@ -56,9 +59,11 @@ loop-less c = search needs
 loop-again : tie.Need-loop-again Inv-loop μ-loop
 unfolding clientRecord
 loop-again c =
+    let args = c .before .before .before .before .before .before .before .before .args in
+    let put-client = c .before .before .put-client in
     let l = c .before .before .before .before .before .before .loop in
-    let plan = c .before .before .before .before .before .before .before .before .args .t3 in
-    let put = c .before .before .put-client .ensures in
+    let plan = args .t3 in
+    let put = put-client .ensures in
     let words = below-more (λ (k : ℕ). Words (clientOf plan k)) (l .i) (l .inv .2) (put .1) in
     (omega arith, then-piece (clientRecord plan) (l .i) (l .inv .1) (put .0), words)
 
@@ -66,7 +71,10 @@ same-length : tie.Need-same-length Inv-loop μ-loop
 same-length c = put-length (c .before .loop .inv .1)
 
 returns : tie.Need-returns Inv-loop μ-loop
-returns c = let e : c .before .loop .i ≡ c .before .before .before .args .t3 .n = omega arith in (rw e at (c .before .loop .inv .1), rw e at (c .before .loop .inv .2))
+returns c =
+    let args = c .before .before .before .args in
+    let e : c .before .loop .i ≡ args .t3 .n = omega arith in
+    (rw e at (c .before .loop .inv .1), rw e at (c .before .loop .inv .2))
 
 pub put-clients-spec : {M : Type 1} → statement M
 put-clients-spec =

@@ -24,7 +24,11 @@ same-length : tie.Need-same-length
 same-length c = search needs
 
 returns : tie.Need-returns
-returns c = then (then (c .before .before .before .before .before .before .before .before .before .before .before .before .put-byte .ensures) (c .before .before .before .before .before .before .before .put-byte2 .ensures)) (c .before .before .put-byte3 .ensures)
+returns c =
+    let at-put-byte3 = c .before .before in
+    let at-put-byte2 = at-put-byte3 .before .before .before .before .before in
+    let at-put-byte = at-put-byte2 .before .before .before .before .before in
+    then (then (at-put-byte .put-byte .ensures) (at-put-byte2 .put-byte2 .ensures)) (at-put-byte3 .put-byte3 .ensures)
 
 pub put-head-spec : {M : Type 1} → statement M
 put-head-spec =

@@ -17,7 +17,10 @@ same-length c = search needs
 
 returns : tie.Need-returns
 unfolding rowRecord
-returns c = then (c .before .before .before .before .before .before .put-byte .ensures) (c .before .before .put-slots .ensures)
+returns c =
+    let put-byte = c .before .before .before .before .before .before .put-byte in
+    let put-slots = c .before .before .put-slots in
+    then (put-byte .ensures) (put-slots .ensures)
 
 pub put-row-spec : {M : Type 1} → statement M
 put-row-spec = tie.close (tie.spec put-byte-requires put-slots-requires same-length returns)

@@ -26,12 +26,15 @@ add-rows c = search needs
 
 loop-holds : tie.Need-loop-holds Inv-loop μ-loop
 unfolding many
-loop-holds c = (omega arith, none (c .before .before .args .out .now) (c .before .before .args .at))
+loop-holds c =
+    let args = c .before .before .args in
+    (omega arith, none (args .out .now) (args .at))
 
 put-row-requires : tie.Need-put-row-requires Inv-loop μ-loop
 put-row-requires c κs =
+    let args = c .before .before .before .before .before .args in
     let l = c .before .before .loop in
-    let plan = c .before .before .before .before .before .args .plan in
+    let plan = args .plan in
     let w = within-many (rowRecord plan) (rowsOf (plan .f)) (l .j) (c .before .loop-test .taken) in
     (search needs, omega arith, omega (arith, l .inv .1 .place, put-length (l .inv .1), length-row plan (l .j)))
 
@@ -43,14 +46,18 @@ loop-less c = search needs
 
 loop-again : tie.Need-loop-again Inv-loop μ-loop
 loop-again c =
+    let args = c .before .before .before .before .before .before .before .before .args in
+    let put-row = c .before .before .put-row in
     let l = c .before .before .before .before .before .loop in
-    (omega arith, then-piece (rowRecord (c .before .before .before .before .before .before .before .before .args .plan)) (l .j) (l .inv .1) (c .before .before .put-row .ensures))
+    (omega arith, then-piece (rowRecord (args .plan)) (l .j) (l .inv .1) (put-row .ensures))
 
 same-length : tie.Need-same-length Inv-loop μ-loop
 same-length c = put-length (c .before .loop .inv .1)
 
 returns : tie.Need-returns Inv-loop μ-loop
-returns c = let e : c .before .loop .j ≡ rowsOf (c .before .before .before .before .args .plan .f) = omega arith in rw e at (c .before .loop .inv .1)
+returns c =
+    let args = c .before .before .before .before .args in
+    let e : c .before .loop .j ≡ rowsOf (args .plan .f) = omega arith in rw e at (c .before .loop .inv .1)
 
 pub put-rows-spec : {M : Type 1} → statement M
 put-rows-spec =

@@ -34,8 +34,9 @@ slot-byte-requires c κs = search needs
 
 put-byte-requires : tie.Need-put-byte-requires Inv-loop μ-loop
 put-byte-requires c κs =
+    let args = c .before .before .before .before .before .args in
     let l = c .before .before .before .loop in
-    let n = length-firsts (slotIn (c .before .before .before .before .before .args .plan) (c .before .before .before .before .before .args .j)) (l .t) in
+    let n = length-firsts (slotIn (args .plan) (args .j)) (l .t) in
     omega (arith, l .inv .1 .place, put-length (l .inv .1))
 
 add-t : tie.Need-add-t Inv-loop μ-loop
@@ -47,9 +48,11 @@ loop-less c = search needs
 loop-again : tie.Need-loop-again Inv-loop μ-loop
 unfolding slotIn
 loop-again c =
+    let slot-byte = c .before .before .before .slot-byte in
+    let put-byte = c .before .before .put-byte in
     let a = c .before .before .before .before .before .before .before .before .args in
     let l = c .before .before .before .before .before .before .loop in
-    let put = rw (c .before .before .before .slot-byte .ensures) at (c .before .before .put-byte .ensures) in
+    let put = rw (slot-byte .ensures) at (put-byte .ensures) in
     (omega arith, then-one (slotIn (a .plan) (a .j)) (l .t) (l .inv .1) put)
 
 same-length : tie.Need-same-length Inv-loop μ-loop

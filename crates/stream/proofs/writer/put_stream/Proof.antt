@@ -1,4 +1,5 @@
--- `stream::writer::put_stream` meets its contract: the records put one after the other; the room that each asks is part of the stream's.
+-- `stream::writer::put_stream` meets its contract: the records put one after the other; the room that each
+-- asks is part of the stream's.
 -- Assumes nothing.
 use native.Mathlib.Omega.{arith}
 use borrow.Author.Needs.{needs}
@@ -11,20 +12,26 @@ use Rattle.stream.proofs.writer.put_stream.Statement.{statement}
 use Rattle.stream.proofs.writer.put_stream.Tie as tie
 
 put-head-requires : tie.Need-put-head-requires
-put-head-requires c κs = let e = length-stream (c .before .before .args .plan) in (search needs, search needs, omega arith)
+put-head-requires c κs = let e = length-stream (c .before .before .args .plan) in
+    (search needs, search needs, omega arith)
 
 put-clients-requires : tie.Need-put-clients-requires
 put-clients-requires c κs =
-    let plan = c .before .before .before .before .before .before .args .plan in
+    let args = c .before .before .before .before .before .before .args in
+    let put-head = c .before .before .before .put-head in
+    let plan = args .plan in
     let e = length-stream plan in
     let n = length-clients plan (plan .n) in
-    (search needs, omega (arith, c .before .before .before .put-head .ensures .place, put-length (c .before .before .before .put-head .ensures)))
+    (search needs, omega (arith, put-head .ensures .place, put-length (put-head .ensures)))
 
 put-rows-requires : tie.Need-put-rows-requires
 put-rows-requires c κs =
-    let plan = c .before .before .before .before .before .before .before .before .before .before .args .plan in
-    let head = c .before .before .before .before .before .before .before .put-head .ensures in
-    let clients = c .before .before .before .put-clients .ensures .0 in
+    let args = c .before .before .before .before .before .before .before .before .before .before .args in
+    let put-head = c .before .before .before .before .before .before .before .put-head in
+    let put-clients = c .before .before .before .put-clients in
+    let plan = args .plan in
+    let head = put-head .ensures in
+    let clients = put-clients .ensures .0 in
     let e = length-stream plan in
     let n = length-clients plan (plan .n) in
     let m = length-rows plan (rowsOf (plan .f)) in
@@ -32,10 +39,14 @@ put-rows-requires c κs =
 
 put-byte-requires : tie.Need-put-byte-requires
 put-byte-requires c κs =
-    let plan = c .before .before .before .before .before .before .before .before .before .before .before .before .before .before .args .plan in
-    let head = c .before .before .before .before .before .before .before .before .before .before .before .put-head .ensures in
-    let clients = c .before .before .before .before .before .before .before .put-clients .ensures .0 in
-    let rows = c .before .before .before .put-rows .ensures in
+    let at-put-rows = c .before .before .before in
+    let at-put-clients = at-put-rows .before .before .before .before in
+    let at-put-head = at-put-clients .before .before .before .before in
+    let at-args = at-put-head .before .before .before in
+    let plan = at-args .args .plan in
+    let head = at-put-head .put-head .ensures in
+    let clients = at-put-clients .put-clients .ensures .0 in
+    let rows = at-put-rows .put-rows .ensures in
     let e = length-stream plan in
     let n = length-clients plan (plan .n) in
     let m = length-rows plan (rowsOf (plan .f)) in
@@ -47,9 +58,13 @@ same-length c = search needs
 returns : tie.Need-returns
 unfolding streamOf
 returns c =
-    let clients = c .before .before .before .before .before .before .before .before .before .before .put-clients .ensures in
-    let rows = then (then (c .before .before .before .before .before .before .before .before .before .before .before .before .before .before .put-head .ensures) (clients .0)) (c .before .before .before .before .before .before .put-rows .ensures) in
-    (then rows (c .before .before .put-byte .ensures), clients .1)
+    let at-put-byte = c .before .before in
+    let at-put-rows = at-put-byte .before .before .before .before in
+    let at-put-clients = at-put-rows .before .before .before .before in
+    let at-put-head = at-put-clients .before .before .before .before in
+    let clients = at-put-clients .put-clients .ensures in
+    let rows = then (then (at-put-head .put-head .ensures) (clients .0)) (at-put-rows .put-rows .ensures) in
+    (then rows (at-put-byte .put-byte .ensures), clients .1)
 
 pub put-stream-spec : {M : Type 1} → statement M
 put-stream-spec =

@@ -32,7 +32,8 @@ add-result-3 c = search needs
 
 returns : tie.Need-returns
 returns c =
-    let plan = c .before .before .before .before .before .args .plan in
+    let args = c .before .before .before .before .before .args in
+    let plan = args .plan in
     let e = length-clients plan (plan .n) in
     let s = length-stream plan in
     omega arith
