@@ -44,10 +44,6 @@ pub then-one : {o₀ o₁ o₂ : List ℕ} {a₀ a₁ a₂ : ℕ} (f : ℕ → �
     → Put o₁ a₁ (f i ∷ []) o₂ a₂ → Put o₀ a₀ (firsts f (i + 1)) o₂ a₂
 then-one f i p q = rw firsts-more (then p q)
 
--- the same bytes under another name
-pub under : {o₀ o₁ s t : List ℕ} {a₀ a₁ : ℕ} → s ≡ t → Put o₀ a₀ s o₁ a₁ → Put o₀ a₀ t o₁ a₁
-under e p = rw e at p
-
 -- the lent output keeps its length
 pub put-length : {o₀ o₁ t : List ℕ} {a r : ℕ} → Put o₀ a t o₁ r → length o₁ ≡ length o₀
 put-length {o₀} {o₁} {t} {a} p = ap length (p .stored) ∙ length-sets o₀ a t

@@ -1,6 +1,8 @@
 -- Checks in order: "The first that applies is given" (document 01, Refusal numbers).
+use mathlib.Core.Path.{_≡_}
 use mathlib.Core.Bool.{Bool, true, false}
-use Prim.Native.Nat.{ℕ, zero, suc}
+use mathlib.Core.Logic.{_⊎_}
+use Prim.Native.Nat.{ℕ, zero, suc, _≤_}
 use lib.Dec.{leb}
 use Rattle.records.specs.declared.Outcome.{Outcome}
 use Rattle.records.specs.declared.Outcome.the-variants.{Fine, Refused}
@@ -38,3 +40,7 @@ numberOf (Refused k offset) = k
 abbrev pub offsetOf : Outcome → ℕ
 offsetOf Fine = 0
 offsetOf (Refused k offset) = offset
+
+-- "Each refusal has its number", 1 to most
+abbrev pub Numbered : ℕ → Outcome → Type 0
+Numbered most o = (o ≡ Fine) ⊎ ((1 ≤ numberOf o) × (numberOf o ≤ most))

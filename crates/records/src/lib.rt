@@ -6,12 +6,23 @@ pub mod refusal; // refusal.rt
 ghost use mathlib.Core.Path.{_≡_};
 ghost use Prim.Native.Nat.{_<_};
 ghost use lib.ListN.{getD};
+ghost use Rattle.records.specs.First.{orElse};
 ghost use Rattle.records.specs.Record.{recordCheck, overCheck};
 
 // What a check finds: nothing, or a refusal's number and offset (0 where no stream is read).
 pub enum Outcome {
     Fine,
     Refused(u8, usize),
+}
+
+// The first refusal of two checks.
+pub fn or_else(first: Outcome, second: Outcome) -> Outcome
+    ensures { λ r. ⌜ r ≡ orElse first second ⌝ }
+{
+    match first {
+        Outcome::Fine => second,
+        Outcome::Refused(number, offset) => Outcome::Refused(number, offset),
+    }
 }
 
 // A byte as a number that can be an index.
@@ -25,7 +36,7 @@ pub fn wide(x: u8) -> usize
 pub fn kind_at(s: &[u8], at: usize) -> u8
     ensures { λ r. ⌜ r ≡ getD (now (s .entry)) at 0 ⌝ }
 {
-    if at < s.len() { s[at] } else { 0 }
+    if s.len() <= at { 0 } else { s[at] }
 }
 
 // The record at a place, its kind's class 0 where it is due and else the refusal; its body this many bytes.
@@ -38,20 +49,18 @@ pub fn check_record(s: &[u8], at: usize, class: u8, body: usize) -> Outcome
     if class != 0 {
         return Outcome::Refused(class, at);
     }
-    if body < s.len() - at {
-        Outcome::Fine
-    } else {
-        Outcome::Refused(refusal::ENDED, at)
+    if s.len() - at <= body {
+        return Outcome::Refused(refusal::ENDED, at);
     }
+    Outcome::Fine
 }
 
 // Nothing follows the end record, whose next place is at.
 pub fn check_over(s: &[u8], at: usize) -> Outcome
     ensures { λ r. ⌜ r ≡ overCheck (now (s .entry)) at ⌝ }
 {
-    if s.len() <= at {
-        Outcome::Fine
-    } else {
-        Outcome::Refused(refusal::FOLLOWED, at)
+    if at < s.len() {
+        return Outcome::Refused(refusal::FOLLOWED, at);
     }
+    Outcome::Fine
 }

@@ -2,4 +2,6 @@ pub mod Records
 pub mod Lengths
 pub mod WrittenBack
 pub mod ReadBack
+pub mod Same
+pub mod Numbers
 pub mod Answers

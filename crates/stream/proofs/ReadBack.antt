@@ -2,13 +2,11 @@
 -- records before it end, so every check passes there and every number is found there.
 -- Assumes nothing.
 use mathlib.Core.Path.{_≡_, refl, ap, sym, _∙_}
-use mathlib.Core.Bool.{true}
 use mathlib.Core.List.{List, [], _∷_, _++_, append-assoc, append-nil}
 use mathlib.Core.Logic.{⊎-elim}
 use Prim.Native.Nat.{ℕ, zero, suc, _+_, _*_, _/_, _%_, _≤_, _<_}
 use native.Mathlib.Numerals.{one-add}
 use native.Mathlib.Omega.{arith}
-use lib.Dec.{eqb}
 use lib.ListN.{length, getD, length-append}
 use lib.Seq.{getD-at}
 use borrow.Author.Tests.{lt-ltb, le-ltb, eq-eqb}
@@ -26,7 +24,8 @@ use Rattle.plan.specs.Plan.{noClient, clientOf, ownerOf, used}
 use Rattle.plan.specs.Check.{frameCheck, countCheck, clientCheck, planCheck}
 use Rattle.plan.proofs.Laws.{Checked, Required, frame-pass, count-pass, client-pass, owner-pass, plan-fine}
 use Rattle.stream.specs.Kind.{headKind, clientKind, rowKind, endKind, wholeOf, classOf, rowsOf}
-use Rattle.stream.specs.Read.{after, place, dueCheck, headCheck, clientAt, clientRead, clientDue, slotCheck}
+use Rattle.stream.specs.Read.{after, place, dueCheck, headCheck, clientAt, numberCheck, clientRead, clientDue}
+use Rattle.stream.specs.Read.{slotCheck}
 use Rattle.stream.specs.Read.{slotDue, rowRead, rowDue, endRead, toClients, toRows, toEnd, restCheck, readCheck}
 use Rattle.stream.specs.Read.{clientIn, ownerIn, planOf, readOf}
 use Rattle.stream.specs.Trip.{Words, Held}
@@ -89,14 +88,14 @@ client-same s at number c h w =
 
 client-forth : (s : List ℕ) (at number : ℕ) (c : Client) → Stands s at (clientBytes number c) → Words c → Required c
     → clientRead s at number ≡ Fine
-unfolding clientRead clientBytes classOf
+unfolding clientRead clientBytes classOf numberCheck
 client-forth s at number c h w r =
     let due : dueCheck s at clientKind ≡ Fine =
     due-pass s at clientKind refl (whole s at clientKind (clientBytes number c) h refl (length-client number c)) in
-    let numbered : eqb (getD s (at + 1) 0) number ≡ true = eq-eqb _ _
-    (byte s at (clientBytes number c) h 1 (omega arith)) in
+    let next : numberCheck (getD s (at + 1) 0) number at ≡ Fine =
+    simp (eq-eqb (getD s (at + 1) 0) number (byte s at (clientBytes number c) h 1 (omega arith))) in
     let required : clientCheck (clientAt s at) at ≡ Fine = rw (client-same s at number c h w) (client-pass c at r) in
-    simp (due, numbered, required)
+    simp (due, next, required)
 
 -- ---- a row
 

@@ -16,7 +16,8 @@ use Rattle.records.specs.declared.Outcome.the-variants.{Fine}
 use Rattle.records.proofs.Checks.{both-fine, need-fine, first-fine, record-fine, record-pass, over-fine}
 use Rattle.plan.proofs.Laws.{Required, frame-fine, count-fine, client-fine}
 use Rattle.stream.specs.Kind.{headKind, clientKind, rowKind, endKind, bodyOf, wholeOf, reserved, classOf, rowsOf}
-use Rattle.stream.specs.Read.{after, place, dueCheck, headCheck, clientAt, clientRead, clientDue, slotDue}
+use Rattle.stream.specs.Read.{after, place, dueCheck, headCheck, clientAt, numberCheck, clientRead, clientDue}
+use Rattle.stream.specs.Read.{slotDue}
 use Rattle.stream.specs.Read.{rowRead, rowDue, endRead, toClients, toRows, toEnd, restCheck, readCheck}
 
 -- ---- a record where a kind is due
@@ -88,6 +89,10 @@ pub record ClientFine (s : List ℕ) (at number : ℕ) : Type 0 where
   pub numbered : getD s (at + 1) 0 ≡ number
   pub required : Required (clientAt s at)
 
+number-fine : (found number at : ℕ) → numberCheck found number at ≡ Fine → found ≡ number
+unfolding numberCheck
+number-fine found number at h = eqb-true found number (need-fine _ _ _ h)
+
 pub client-read : (s : List ℕ) (at number : ℕ) → clientRead s at number ≡ Fine → ClientFine s at number
 unfolding clientRead
 client-read s at number h =
@@ -95,7 +100,7 @@ client-read s at number h =
     let b = both-fine _ _ (a .1) in
     record {
       whole = due-fine s at clientKind (a .0);
-      numbered = eqb-true _ _ (need-fine _ _ _ (b .0));
+      numbered = number-fine (getD s (at + 1) 0) number at (b .0);
       required = client-fine (clientAt s at) at (b .1);
     }
 

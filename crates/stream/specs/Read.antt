@@ -37,14 +37,19 @@ dueCheck s at due = recordCheck s at (classOf due (getD s at 0)) (bodyOf (getD s
 unfoldable pub headCheck : List ℕ → Outcome
 headCheck s = orElse (dueCheck s 0 headKind) (orElse (frameCheck (getD s 1 0)) (countCheck (getD s 2 0)))
 
--- a client's record: the requirements in it; "for a client 7, 8, 9"
+-- a client's record: the requirements in it
 unfoldable pub clientAt : List ℕ → ℕ → Client
 clientAt s at = record { p = word s (at + 2); q = word s (at + 4); a = word s (at + 6); b = word s (at + 8) }
 
+-- 7: its number is not the next one
+unfoldable pub numberCheck : ℕ → ℕ → ℕ → Outcome
+numberCheck found number at = need (eqb found number) refusal.notNext at
+
+-- "for a client 7, 8, 9"
 unfoldable pub clientRead : List ℕ → ℕ → ℕ → Outcome
 clientRead s at number =
-    orElse (dueCheck s at clientKind)
-    (orElse (need (eqb (getD s (at + 1) 0) number) refusal.notNext at) (clientCheck (clientAt s at) at))
+    orElse (dueCheck s at clientKind) (orElse (numberCheck (getD s (at + 1) 0) number at)
+    (clientCheck (clientAt s at) at))
 
 -- client i + 1, where the clients' records begin at a place
 unfoldable pub clientDue : List ℕ → ℕ → ℕ → Outcome

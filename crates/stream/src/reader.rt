@@ -8,6 +8,7 @@ use records::check_over;
 use records::check_record;
 use records::inner::word_at;
 use records::kind_at;
+use records::or_else;
 use records::refusal;
 use records::wide;
 ghost use mathlib.Core.Path.{_≡_};
@@ -18,7 +19,9 @@ ghost use Rattle.records.specs.Pieces.{padded};
 ghost use Rattle.records.specs.declared.Outcome.the-variants.{Fine};
 ghost use Rattle.plan.specs.Plan.{noClient};
 ghost use Rattle.stream.specs.Kind.{clientKind, rowKind, wholeOf, rowsOf};
-ghost use Rattle.stream.specs.Read.{after, place, dueCheck, headCheck, clientAt, clientRead, clientDue, slotCheck, slotDue, rowRead, rowDue, endRead, restCheck, readCheck, clientIn, ownerIn, planOf};
+ghost use Rattle.stream.specs.Read.{after, place, dueCheck, headCheck, clientAt, numberCheck, clientRead};
+ghost use Rattle.stream.specs.Read.{clientDue, slotCheck, slotDue, rowRead, rowDue, endRead, restCheck, readCheck};
+ghost use Rattle.stream.specs.Read.{clientIn, ownerIn, planOf};
 
 // ---- places
 
@@ -63,10 +66,8 @@ fn check_head(s: &[u8]) -> Outcome
         return Outcome::Refused(number, offset);
     }
     let frame = inner::check_frame(wide(s[1]));
-    if let Outcome::Refused(number, offset) = frame {
-        return Outcome::Refused(number, offset);
-    }
-    inner::check_count(wide(s[2]))
+    let count = inner::check_count(wide(s[2]));
+    or_else(frame, count)
 }
 
 // The requirements in a client's record.
@@ -82,18 +83,27 @@ fn client_at(s: &[u8], at: usize) -> Client
     }
 }
 
+// The number in a client's record is the next one: 7.
+fn check_number(found: u8, number: usize, at: usize) -> Outcome
+    ensures { λ r. ⌜ r ≡ numberCheck found number at ⌝ }
+{
+    if wide(found) != number {
+        return Outcome::Refused(refusal::NOT_NEXT, at);
+    }
+    Outcome::Fine
+}
+
 // A client's record: 7, 8, 9.
 fn check_client(s: &[u8], at: usize, number: usize) -> Outcome
     ensures { λ r. ⌜ r ≡ clientRead (now (s .entry)) at number ⌝ }
 {
     let due = check_due(s, at, kind::CLIENT);
-    if let Outcome::Refused(number, offset) = due {
-        return Outcome::Refused(number, offset);
+    if let Outcome::Refused(refused, offset) = due {
+        return Outcome::Refused(refused, offset);
     }
-    if wide(s[at + 1]) != number {
-        return Outcome::Refused(refusal::NOT_NEXT, at);
-    }
-    inner::check_client(client_at(s, at), at)
+    let next = check_number(s[at + 1], number, at);
+    let required = inner::check_client(client_at(s, at), at);
+    or_else(next, required)
 }
 
 // The records of all clients.

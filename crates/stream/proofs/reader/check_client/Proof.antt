@@ -1,10 +1,8 @@
 -- `stream::reader::check_client` meets its contract: the record, the number and the requirements are
 -- checked in this order.
 -- Assumes nothing.
-use mathlib.Core.Path.{sym, _∙_}
 use native.Mathlib.Omega.{arith}
 use borrow.Author.Needs.{needs}
-use borrow.Author.Tests.{eq-eqb, ne-eqb}
 use Rattle.records.proofs.Checks.{stops, passes}
 use Rattle.stream.specs.Kind.{clientKind}
 use Rattle.stream.specs.Read.{clientRead}
@@ -27,49 +25,40 @@ returns c =
 enum-told : tie.Need-enum-told
 enum-told c = search needs
 
-add-wide : tie.Need-add-wide
-add-wide c =
+add-check-number : tie.Need-add-check-number
+add-check-number c =
     let check-due = c .before .before .check-due in
     omega (arith, due-found _ _ clientKind (check-due .ensures) (c .enum-told .given .1) .room)
 
-shared-slice-read-wide : tie.Need-shared-slice-read-wide
-shared-slice-read-wide c =
+shared-slice-read-check-number : tie.Need-shared-slice-read-check-number
+shared-slice-read-check-number c =
     let check-due = c .before .before .before .check-due in
     omega (arith, due-found _ _ clientKind (check-due .ensures) (c .before .enum-told .given .1) .room)
 
-wide-requires : tie.Need-wide-requires
-wide-requires c κs = search needs
-
-returns-2 : tie.Need-returns-2
-unfolding clientRead
-returns-2 c =
-    let args = c .before .before .before .before .before .before .before .args in
-    let check-due = c .before .before .before .before .before .check-due in
-    let enum-told = c .before .before .before .enum-told in
-    let b = c .before .wide .ensures .0 in
-    passes (check-due .ensures) (enum-told .given .1) (simp (ne-eqb _ (args .number) (λ e. c .if1 .taken (b ∙ e))))
+check-number-requires : tie.Need-check-number-requires
+check-number-requires c κs = search needs
 
 client-at-requires : tie.Need-client-at-requires
 client-at-requires c κs =
-    let check-due = c .before .before .before .before .before .check-due in
-    let enum-told = c .before .before .before .enum-told in
+    let check-due = c .before .before .before .before .check-due in
+    let enum-told = c .before .before .enum-told in
     due-found _ _ clientKind (check-due .ensures) (enum-told .given .1) .room
 
 check-client-requires : tie.Need-check-client-requires
 check-client-requires c κs = search needs
 
-returns-3 : tie.Need-returns-3
+or-else-requires : tie.Need-or-else-requires
+or-else-requires c κs = search needs
+
+returns-2 : tie.Need-returns-2
 unfolding clientRead
-returns-3 c =
-    let args = c .before .before .before .before .before .before .before .before .before .args in
+returns-2 c =
     let check-due = c .before .before .before .before .before .before .before .check-due in
     let enum-told = c .before .before .before .before .before .enum-told in
-    let wide = c .before .before .before .wide in
-    let if1 = c .before .before .if1 in
-    let b = wide .ensures .0 in
-    let number = eq-eqb _ (args .number) (sym b ∙ if1 .left) in
-    passes (check-due .ensures) (enum-told .given .1) (rw number
-    (c .check-client .ensures ∙ rw (c .before .client-at .ensures)))
+    let check-number = c .before .before .before .check-number in
+    let client-at′ = c .before .before .client-at in
+    let required = rw (client-at′ .ensures) at (c .before .check-client .ensures) in
+    passes (check-due .ensures) (enum-told .given .1) (rw (check-number .ensures, required) at (c .or-else .ensures))
 
 pub check-client-spec : {M : Type 1} → statement M
 check-client-spec =
@@ -79,10 +68,10 @@ check-client-spec =
     enum-known-due
     returns
     enum-told
-    add-wide
-    shared-slice-read-wide
-    wide-requires
-    returns-2
+    add-check-number
+    shared-slice-read-check-number
+    check-number-requires
     client-at-requires
     check-client-requires
-    returns-3)
+    or-else-requires
+    returns-2)

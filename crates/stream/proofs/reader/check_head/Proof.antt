@@ -35,27 +35,10 @@ wide-requires c κs = search needs
 check-frame-requires : tie.Need-check-frame-requires
 check-frame-requires c κs = search needs
 
-enum-known-frame : tie.Need-enum-known-frame
-enum-known-frame c = search needs
-
-returns-2 : tie.Need-returns-2
-unfolding headCheck
-returns-2 c =
-    let check-due = c .before .before .before .before .before .before .before .before .check-due in
-    let enum-told = c .before .before .before .before .before .before .enum-told in
-    let wide = c .before .before .before .before .wide in
-    let check-frame = c .before .before .before .check-frame in
-    let f = wide .ensures .0 in
-    let frame = rw f at (check-frame .ensures) in
-    passes (check-due .ensures) (enum-told .given .1) (stops _ frame (c .before .frame .given .1))
-
-enum-told-2 : tie.Need-enum-told-2
-enum-told-2 c = search needs
-
 shared-slice-read-wide-2 : tie.Need-shared-slice-read-wide-2
 shared-slice-read-wide-2 c =
-    let check-due = c .before .before .before .before .before .before .before .before .check-due in
-    let enum-told = c .before .before .before .before .before .before .enum-told in
+    let check-due = c .before .before .before .before .before .before .check-due in
+    let enum-told = c .before .before .before .before .enum-told in
     omega (arith, due-found _ 0 headKind (check-due .ensures) (enum-told .given .1) .room)
 
 wide-requires-2 : tie.Need-wide-requires-2
@@ -64,19 +47,20 @@ wide-requires-2 c κs = search needs
 check-count-requires : tie.Need-check-count-requires
 check-count-requires c κs = search needs
 
-returns-3 : tie.Need-returns-3
+or-else-requires : tie.Need-or-else-requires
+or-else-requires c κs = search needs
+
+returns-2 : tie.Need-returns-2
 unfolding headCheck
-returns-3 c =
-    let check-due = c .before .before .before .before .before .before .before .before .before .before .check-due in
-    let enum-told = c .before .before .before .before .before .before .before .before .enum-told in
-    let wide = c .before .before .before .before .before .before .wide in
-    let check-frame = c .before .before .before .before .before .check-frame in
-    let enum-told2 = c .before .before .before .enum-told2 in
-    let n = c .before .wide2 .ensures .0 in
-    let f = wide .ensures .0 in
-    let frame = rw f at (check-frame .ensures) in
-    let count = rw n at (c .check-count .ensures) in
-    passes (check-due .ensures) (enum-told .given .1) (passes frame (enum-told2 .given .1) count)
+returns-2 c =
+    let check-due = c .before .before .before .before .before .before .before .before .before .check-due in
+    let enum-told = c .before .before .before .before .before .before .before .enum-told in
+    let wide = c .before .before .before .before .before .wide in
+    let check-frame = c .before .before .before .before .check-frame in
+    let wide2 = c .before .before .wide2 in
+    let frame = rw (wide .ensures .0) at (check-frame .ensures) in
+    let count = rw (wide2 .ensures .0) at (c .before .check-count .ensures) in
+    passes (check-due .ensures) (enum-told .given .1) (rw (frame, count) at (c .or-else .ensures))
 
 pub check-head-spec : {M : Type 1} → statement M
 check-head-spec =
@@ -89,10 +73,8 @@ check-head-spec =
     shared-slice-read-wide
     wide-requires
     check-frame-requires
-    enum-known-frame
-    returns-2
-    enum-told-2
     shared-slice-read-wide-2
     wide-requires-2
     check-count-requires
-    returns-3)
+    or-else-requires
+    returns-2)

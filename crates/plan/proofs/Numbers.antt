@@ -1,0 +1,74 @@
+-- A plan's refusals have a number up to 10 and, outside reading, offset 0.
+-- Assumes nothing.
+use mathlib.Core.Path.{_≡_, refl}
+use mathlib.Core.Logic.{inl}
+use Prim.Native.Nat.{ℕ, _≤_}
+use native.Mathlib.Omega.{arith}
+use lib.Dec.{leb}
+use Rattle.records.specs.Refusal as refusal
+use Rattle.records.specs.First.{between, need, orElse, firstOf, offsetOf, Numbered}
+use Rattle.records.specs.declared.Outcome.{Outcome}
+use Rattle.records.specs.declared.Outcome.the-variants.{Fine}
+use Rattle.records.proofs.Numbers.{or-each, first-each, need-numbered, need-unread}
+use Rattle.plan.specs.declared.Client.{Client}
+use Rattle.plan.specs.declared.Plan.{Plan}
+use Rattle.plan.specs.Plan.{clientOf, ownerOf}
+use Rattle.plan.specs.Check.{frameCheck, countCheck, clientCheck, ownerCheck, clientStep, requirementsCheck}
+use Rattle.plan.specs.Check.{ownerStep, ownersCheck, planCheck}
+
+-- what holds of what each check finds holds of what the plan's check finds
+plan-each : (P : Outcome → Type 0) → P Fine → ((f : ℕ) → P (frameCheck f)) → ((n : ℕ) → P (countCheck n))
+    → ((c : Client) → P (clientCheck c 0)) → ((owner n : ℕ) → P (ownerCheck owner n 0)) → (plan : Plan)
+    → P (planCheck plan)
+unfolding planCheck requirementsCheck ownersCheck clientStep ownerStep
+plan-each P z frame count client owner plan =
+    let clients : Outcome = firstOf (clientStep plan) (plan .n) in
+    or-each P (requirementsCheck plan) (ownersCheck plan)
+    (or-each P (frameCheck (plan .f)) (orElse (countCheck (plan .n)) clients) (frame (plan .f))
+    (or-each P (countCheck (plan .n)) clients (count (plan .n))
+    (first-each P z (clientStep plan) (λ i. client (clientOf plan i)) (plan .n))))
+    (first-each P z (ownerStep plan) (λ x. owner (ownerOf plan x) (plan .n)) (plan .f))
+
+-- ---- numbers
+
+pub frame-numbered : (most f : ℕ) → refusal.owner ≤ most → Numbered most (frameCheck f)
+unfolding frameCheck
+frame-numbered most f h = need-numbered most (between 1 f 64) refusal.frame 0 (omega arith) (omega arith)
+
+pub count-numbered : (most n : ℕ) → refusal.owner ≤ most → Numbered most (countCheck n)
+unfolding countCheck
+count-numbered most n h = need-numbered most (between 1 n 8) refusal.count 0 (omega arith) (omega arith)
+
+pub client-numbered : (most : ℕ) (c : Client) (offset : ℕ) → refusal.owner ≤ most → Numbered most (clientCheck c offset)
+unfolding clientCheck
+client-numbered most c offset h =
+    or-each (Numbered most)
+    (need (between 1 (c .p) (c .q)) refusal.rate offset) (need (leb 1 (c .b)) refusal.latency offset)
+    (need-numbered most (between 1 (c .p) (c .q)) refusal.rate offset (omega arith) (omega arith))
+    (need-numbered most (leb 1 (c .b)) refusal.latency offset (omega arith) (omega arith))
+
+pub owner-numbered : (most owner n offset : ℕ) → refusal.owner ≤ most → Numbered most (ownerCheck owner n offset)
+unfolding ownerCheck
+owner-numbered most owner n offset h = need-numbered most (leb owner n) refusal.owner offset (omega arith) h
+
+pub plan-numbered : (most : ℕ) → refusal.owner ≤ most → (plan : Plan) → Numbered most (planCheck plan)
+plan-numbered most h =
+    plan-each (Numbered most) (inl refl)
+    (λ f. frame-numbered most f h)
+    (λ n. count-numbered most n h)
+    (λ c. client-numbered most c 0 h)
+    (λ owner n. owner-numbered most owner n 0 h)
+
+-- ---- offsets
+
+pub plan-unread : (plan : Plan) → offsetOf (planCheck plan) ≡ 0
+unfolding frameCheck countCheck clientCheck ownerCheck
+plan-unread =
+    plan-each (λ (o : Outcome). offsetOf o ≡ 0) refl
+    (λ f. need-unread (between 1 f 64) refusal.frame)
+    (λ n. need-unread (between 1 n 8) refusal.count)
+    (λ c.
+    or-each (λ (o : Outcome). offsetOf o ≡ 0)
+    (need (between 1 (c .p) (c .q)) refusal.rate 0) (need (leb 1 (c .b)) refusal.latency 0)
+    (need-unread (between 1 (c .p) (c .q)) refusal.rate) (need-unread (leb 1 (c .b)) refusal.latency))
+    (λ owner n. need-unread (leb owner n) refusal.owner)

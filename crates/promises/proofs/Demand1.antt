@@ -1,0 +1,119 @@
+-- Demand 1: every stream, plan and number handed in gets a defined reply. Each contract fixes result and lent bytes, so
+-- two outcomes that it allows coincide; each refusal has its number; a refusal gives 0 for all else, a refused read
+-- with
+-- a plan of zeros, and leaves a lent output untouched.
+-- Assumes nothing.
+use mathlib.Core.Path.{_≡_, refl, sym, _∙_}
+use mathlib.Core.List.{List}
+use Prim.Native.Nat.{ℕ}
+use native.Mathlib.Omega.{arith}
+use lib.ListN.{length, drop}
+use lib.Seq.{drop-at}
+use Rattle.records.specs.Refusal as refusal
+use Rattle.records.specs.First.{numberOf, offsetOf, Numbered}
+use Rattle.records.specs.declared.Outcome.{Outcome}
+use Rattle.records.specs.declared.Outcome.the-variants.{Fine, Refused}
+use Rattle.plan.specs.declared.Plan.{Plan}
+use Rattle.plan.specs.Plan.{noPlan, Same}
+use Rattle.plan.specs.Check.{planCheck, requirementsCheck}
+use Rattle.plan.proofs.Laws.{Checked, plan-fine, plan-pass, same-check}
+use Rattle.plan.proofs.Numbers.{plan-numbered, plan-unread}
+use Rattle.stream.specs.Read.{readCheck, planOf, planIf, readOf}
+use Rattle.stream.specs.Write.{streamOf, writeCheck, writtenBy, writtenOf, bytesBy, bytesOf, Wrote}
+use Rattle.stream.specs.Write as write
+use Rattle.stream.specs.declared.Reading.{Reading}
+use Rattle.stream.specs.declared.Written.{Written}
+use Rattle.stream.proofs.Same.{same-stream}
+use Rattle.stream.proofs.Numbers.{read-numbered, write-numbered}
+
+-- ---- any two outcomes coincide
+
+pub check-once : (plan : Plan) (r r′ : Outcome) → r ≡ planCheck plan → r′ ≡ planCheck plan → r ≡ r′
+check-once plan r r′ h h′ = h ∙ sym h′
+
+pub requirements-once : (plan : Plan) (r r′ : Outcome) → r ≡ requirementsCheck plan → r′ ≡ requirementsCheck plan
+    → r ≡ r′
+requirements-once plan r r′ h h′ = h ∙ sym h′
+
+pub read-once : (s : List ℕ) (r r′ : Reading) → r ≡ readOf s → r′ ≡ readOf s → r ≡ r′
+read-once s r r′ h h′ = h ∙ sym h′
+
+pub write-once : (plan : Plan) (out : List ℕ) (r r′ : Written) (now now′ : List ℕ) → Wrote plan out r now
+    → Wrote plan out r′ now′ → (r ≡ r′) × (now ≡ now′)
+write-once plan out r r′ now now′ h h′ = (h .answer ∙ sym (h′ .answer), h .bytes ∙ sym (h′ .bytes))
+
+-- ---- "Each refusal has its number"
+
+pub read-number : (s : List ℕ) → Numbered 11 (readOf s .outcome)
+unfolding readOf
+read-number s = read-numbered s
+
+pub check-number : (plan : Plan) → Numbered 10 (planCheck plan)
+check-number = plan-numbered refusal.owner (omega arith)
+
+pub write-number : (plan : Plan) (room : ℕ) → Numbered 12 (writeCheck plan room)
+write-number plan room = write-numbered plan room
+
+-- a plan passes exactly when it is in bounds
+pub check-exactly : (plan : Plan) → (planCheck plan ≡ Fine → Checked plan) × (Checked plan → planCheck plan ≡ Fine)
+check-exactly plan = (plan-fine plan, plan-pass plan)
+
+-- ---- "places past f .. and past n are ignored on the way in": plans that are the same get the same reply
+
+pub check-same : (plan other : Plan) → Same plan other → planCheck plan ≡ planCheck other
+check-same = same-check
+
+pub write-same : (plan other : Plan) (out : List ℕ) → Same plan other
+    → (writtenOf plan (length out) ≡ writtenOf other (length out)) × (bytesOf plan out ≡ bytesOf other out)
+unfolding writtenOf bytesOf writeCheck
+write-same plan other out s = (
+  rw (same-check plan other s, same-stream plan other s),
+  rw
+      (same-check plan other s, same-stream plan other s),
+)
+
+-- ---- what a refusal returns
+
+plan-by : (o : Outcome) (plan : Plan) → (numberOf o ≡ 0 → ⊥) → planIf o plan ≡ noPlan
+plan-by Fine plan h = absurd (h refl)
+plan-by (Refused k offset) plan h = refl
+
+-- "a plan with every number 0"
+pub read-refused : (s : List ℕ) → (numberOf (readOf s .outcome) ≡ 0 → ⊥) → readOf s .plan ≡ noPlan
+unfolding readOf
+read-refused s h = plan-by (readCheck s) (planOf s) h
+
+-- "A refusal outside reading returns its number with all other results 0"
+pub check-offset : (plan : Plan) → offsetOf (planCheck plan) ≡ 0
+check-offset = plan-unread
+
+number-by : (o : Outcome) (size : ℕ) → write.numberOf (writtenBy o size) ≡ numberOf o
+number-by Fine size = refl
+number-by (Refused k offset) size = refl
+
+size-by : (o : Outcome) (size : ℕ) → (numberOf o ≡ 0 → ⊥) → write.sizeOf (writtenBy o size) ≡ 0
+size-by Fine size h = absurd (h refl)
+size-by (Refused k offset) size h = refl
+
+bytes-by : (o : Outcome) (stream out : List ℕ) → (numberOf o ≡ 0 → ⊥) → bytesBy o stream out ≡ out
+bytes-by Fine stream out h = absurd (h refl)
+bytes-by (Refused k offset) stream out h = refl
+
+-- "leaves a lent output untouched"
+pub write-refused : (plan : Plan) (out : List ℕ) → (write.numberOf (writtenOf plan (length out)) ≡ 0 → ⊥)
+    → (write.sizeOf (writtenOf plan (length out)) ≡ 0) × (bytesOf plan out ≡ out)
+unfolding writtenOf bytesOf
+write-refused plan out h =
+    let o : Outcome = writeCheck plan (length out) in
+    let n = number-by o (length (streamOf plan)) in
+    (size-by o (length (streamOf plan)) (λ e. h (n ∙ e)), bytes-by o (streamOf plan) out (λ e. h (n ∙ e)))
+
+kept-by : (o : Outcome) (stream out : List ℕ) → drop (length stream) (bytesBy o stream out) ≡ drop (length stream) out
+kept-by Fine stream out = drop-at stream (drop (length stream) out) (length stream) refl
+kept-by (Refused k offset) stream out = refl
+
+-- "A write that succeeds touches only the stream's length of bytes"
+pub write-kept : (plan : Plan) (out : List ℕ)
+    → drop (length (streamOf plan)) (bytesOf plan out) ≡ drop (length (streamOf plan)) out
+unfolding bytesOf
+write-kept plan out = kept-by (writeCheck plan (length out)) (streamOf plan) out

@@ -1,0 +1,3 @@
+pub mod Demand1
+pub mod Demand2
+pub mod Trips

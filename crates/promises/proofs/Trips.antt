@@ -1,0 +1,113 @@
+-- What the two round trips give as calls, from the contracts of `stream::read` and `stream::write` alone.
+-- Assumes nothing.
+use mathlib.Core.Path.{_≡_, refl, ap, sym, _∙_}
+use mathlib.Core.Bool.{Bool}
+use mathlib.Core.List.{List}
+use Prim.Native.Nat.{ℕ, _≤_}
+use native.Mathlib.Omega.{arith}
+use lib.Dec.{leb}
+use lib.ListN.{length, take, length-append, length-drop}
+use borrow.Author.Tests.{le-leb, leb-true}
+use Rattle.records.specs.Refusal as refusal
+use Rattle.records.specs.First.{need, orElse}
+use Rattle.records.specs.declared.Outcome.{Outcome}
+use Rattle.records.specs.declared.Outcome.the-variants as outcome
+use Rattle.records.proofs.Checks.{both-fine, need-fine}
+use Rattle.plan.specs.declared.Plan.{Plan}
+use Rattle.plan.specs.Plan.{noPlan}
+use Rattle.plan.specs.Check.{planCheck}
+use Rattle.plan.proofs.Numbers.{plan-unread}
+use Rattle.stream.specs.Read.{readCheck, planOf, planIf, readOf}
+use Rattle.stream.specs.Trip.{Rewritten, Reread}
+use Rattle.stream.specs.Write.{streamOf, writeCheck, writtenBy, writtenOf, bytesBy, bytesOf, Wrote}
+use Rattle.stream.specs.declared.Reading.{Reading}
+use Rattle.stream.specs.declared.Written.{Written}
+use Rattle.stream.specs.declared.Written.the-variants as written
+use Rattle.stream.proofs.Lengths.{stream-sizes}
+use Rattle.stream.proofs.WrittenBack.{plan-right}
+use Rattle.promises.specs.Trip.{copyCheck, Copied, rereadOf}
+
+-- ---- read, then written: a is what the read gave
+
+found : (s : List ℕ) (a : Reading) (o : Outcome) → a ≡ readOf s → a .outcome ≡ o → readCheck s ≡ o
+unfolding readOf
+found s a o e h = ap (λ (x : Reading). x .outcome) (sym e) ∙ h
+
+pub copy-refused : (s out : List ℕ) (a : Reading) (k offset : ℕ) → a ≡ readOf s → a .outcome ≡ outcome.Refused k offset
+    → Copied s out (written.Refused k) out
+unfolding copyCheck
+copy-refused s out a k offset e h =
+    let q = found s a (outcome.Refused k offset) e h in
+    record { answer = rw q; bytes = rw q }
+
+pub copied : (s out : List ℕ) (a : Reading) (r : Written) (now : List ℕ) → a ≡ readOf s → Rewritten s a
+    → a .outcome ≡ outcome.Fine → Wrote (a .plan) out r now → Copied s out r now
+unfolding copyCheck writeCheck writtenOf bytesOf readOf
+copied s out a r now e back h w =
+    let q : readCheck s ≡ outcome.Fine = found s a outcome.Fine e h in
+    let p : a .plan ≡ planOf s = ap (λ (x : Reading). x .plan) e ∙ ap (λ (o : Outcome). planIf o (planOf s)) q in
+    let ok : planCheck (a .plan) ≡ outcome.Fine = rw p (plan-right s q) in
+    let t : streamOf (a .plan) ≡ s = back h in
+    record { answer = w .answer ∙ rw (ok, t, q); bytes = w .bytes ∙ rw (ok, t, q) }
+
+-- ---- written, then read: r is what the write gave, now the bytes after
+
+given : (o : Outcome) (n size : ℕ) → writtenBy o n ≡ written.Bytes size → (o ≡ outcome.Fine) × (size ≡ n)
+given outcome.Fine n size h = (refl, cc)
+given (outcome.Refused k offset) n size h = let z : _≡_ {A = ℕ} 0 1 = cc in absurd (omega arith)
+
+-- what was written lies within the bytes lent
+pub record Fitted (plan : Plan) (size : ℕ) (now : List ℕ) : Type 0 where
+  pub passed : planCheck plan ≡ outcome.Fine
+  pub fits : size ≤ length now
+
+kept-by : (o : Outcome) (stream out : List ℕ) → (o ≡ outcome.Fine → length stream ≤ length out)
+    → length (bytesBy o stream out) ≡ length out
+kept-by outcome.Fine stream out h = let l = h refl in simp (length-append, length-drop) (omega arith)
+kept-by (outcome.Refused k offset) stream out h = refl
+
+room : (plan : Plan) (n : ℕ) → writeCheck plan n ≡ outcome.Fine → (planCheck plan ≡ outcome.Fine) ×
+    (length (streamOf plan) ≤ n)
+unfolding writeCheck
+room plan n h =
+    let test : Bool = leb (length (streamOf plan)) n in
+    let b = both-fine (planCheck plan) (need test refusal.room 0) h in
+    (b .0, leb-true (length (streamOf plan)) n (need-fine test refusal.room 0 (b .1)))
+
+pub fitted : (plan : Plan) (out : List ℕ) (r : Written) (now : List ℕ) (size : ℕ) → Wrote plan out r now
+    → r ≡ written.Bytes size → Fitted plan size now
+unfolding writtenOf bytesOf
+fitted plan out r now size w e =
+    let o : Outcome = writeCheck plan (length out) in
+    let g = given o (length (streamOf plan)) size (sym (w .answer) ∙ e) in
+    let l = room plan (length out) (g .0) in
+    let kept : length now ≡ length out = ap length (w .bytes) ∙ kept-by o (streamOf plan) out (λ h. l .1) in
+    record { passed = l .0; fits = omega (arith, g .1, l .1) }
+
+-- and is the plan's own reading
+pub reread-given : (plan : Plan) (r : Written) (now : List ℕ) (size : ℕ) (a : Reading) → planCheck plan ≡ outcome.Fine
+    → Reread plan r now → r ≡ written.Bytes size → a ≡ readOf (take size now) → a ≡ rereadOf plan
+unfolding rereadOf
+reread-given plan r now size a ok back e h = h ∙ back size e ∙ rw ok
+
+-- a write into 156 bytes is refused for the plan's own fault, which has no offset
+refused-by : (plan : Plan) (k : ℕ) (o : Outcome) → planCheck plan ≡ o
+    → writtenBy (orElse o (need (leb (length (streamOf plan)) 156) refusal.room 0)) (length (streamOf plan))
+    ≡ written.Refused k → record { outcome = outcome.Refused k 0; plan = noPlan } ≡ rereadOf plan
+unfolding rereadOf
+refused-by plan k outcome.Fine h e =
+    let fits = le-leb (length (streamOf plan)) 156 (stream-sizes plan h .1) in
+    let g : written.Bytes (length (streamOf plan)) ≡ written.Refused k = rw fits at e in
+    let z : _≡_ {A = ℕ} 0 1 = cc in
+    absurd (omega arith)
+refused-by plan k (outcome.Refused j offset) h e =
+    let number : j ≡ k = cc in
+    let unread : offset ≡ 0 = rw h at (plan-unread plan) in
+    rw (h, number, unread)
+
+pub reread-refused : (plan : Plan) (out : List ℕ) (r : Written) (now : List ℕ) (k : ℕ) → length out ≡ 156
+    → Wrote plan out r now → r ≡ written.Refused k
+    → record { outcome = outcome.Refused k 0; plan = noPlan } ≡ rereadOf plan
+unfolding writtenOf writeCheck
+reread-refused plan out r now k n w e =
+    refused-by plan k (planCheck plan) refl (rw n at (sym (w .answer) ∙ e))

@@ -1,0 +1,66 @@
+-- What holds of every refusal of each check holds of the first that applies: its number is the document's, and outside
+-- reading its offset is 0.
+-- Assumes nothing.
+use mathlib.Core.Path.{_≡_, refl}
+use mathlib.Core.Bool.{Bool, true, false}
+use mathlib.Core.List.{List}
+use mathlib.Core.Logic.{inl, inr}
+use Prim.Native.Nat.{ℕ, zero, suc, _-_, _≤_}
+use native.Mathlib.Omega.{arith}
+use lib.Dec.{ltb, leb, eqb}
+use lib.ListN.{length}
+use borrow.Author.Tests.{eqb-false}
+use Rattle.records.specs.Refusal as refusal
+use Rattle.records.specs.First.{need, orElse, firstOf, numberOf, offsetOf, Numbered}
+use Rattle.records.specs.Record.{recordCheck, overCheck}
+use Rattle.records.specs.declared.Outcome.{Outcome}
+use Rattle.records.specs.declared.Outcome.the-variants.{Fine, Refused}
+
+-- ---- any property of what checks find
+
+pub or-each : (P : Outcome → Type 0) (x y : Outcome) → P x → P y → P (orElse x y)
+or-each P Fine y p q = q
+or-each P (Refused k offset) y p q = p
+
+pub first-each : (P : Outcome → Type 0) → P Fine → (g : ℕ → Outcome) → ((i : ℕ) → P (g i)) → (n : ℕ) → P (firstOf g n)
+unfolding firstOf
+first-each P z g h zero = z
+first-each P z g h (suc n) = or-each P (firstOf g n) (g n) (first-each P z g h n) (h n)
+
+-- ---- numbers
+
+pub need-numbered : (most : ℕ) (b : Bool) (k offset : ℕ) → 1 ≤ k → k ≤ most → Numbered most (need b k offset)
+need-numbered most true k offset l h = inl refl
+need-numbered most false k offset l h = inr (l, h)
+
+-- a number 0 says that nothing is refused
+pub numbered-fine : (most : ℕ) (o : Outcome) → Numbered most o → numberOf o ≡ 0 → o ≡ Fine
+numbered-fine most o (inl e) z = e
+numbered-fine most o (inr h) z = absurd (omega (arith, h .0))
+
+class-numbered : (most class at : ℕ) (b : Bool) → eqb class 0 ≡ b → class ≤ most → Numbered most (need b class at)
+class-numbered most class at true e h = inl refl
+class-numbered most zero at false e h = absurd (eqb-false zero 0 e refl)
+class-numbered most (suc k) at false e h = inr (omega arith, h)
+
+pub record-numbered : (most : ℕ) (s : List ℕ) (at class body : ℕ) → 1 ≤ most → class ≤ most
+    → Numbered most (recordCheck s at class body)
+unfolding recordCheck
+record-numbered most s at class body l h =
+    let begun : Outcome = need (ltb at (length s)) refusal.ended (length s) in
+    let due : Outcome = need (eqb class 0) class at in
+    let whole : Outcome = need (ltb body (length s - at)) refusal.ended at in
+    or-each (Numbered most) begun (orElse due whole)
+    (need-numbered most (ltb at (length s)) refusal.ended (length s) (omega arith) l)
+    (or-each (Numbered most) due whole (class-numbered most class at (eqb class 0) refl h)
+    (need-numbered most (ltb body (length s - at)) refusal.ended at (omega arith) l))
+
+pub over-numbered : (most : ℕ) (s : List ℕ) (at : ℕ) → refusal.followed ≤ most → Numbered most (overCheck s at)
+unfolding overCheck
+over-numbered most s at h = need-numbered most (leb (length s) at) refusal.followed at (omega arith) h
+
+-- ---- offsets
+
+pub need-unread : (b : Bool) (k : ℕ) → offsetOf (need b k 0) ≡ 0
+need-unread true k = refl
+need-unread false k = refl

@@ -1,0 +1,32 @@
+-- Plans that are the same have the same stream: places past f and past n are not written.
+-- Assumes nothing.
+use mathlib.Core.Path.{_≡_, refl, ap}
+use mathlib.Core.Logic.{⊎-elim}
+use Prim.Native.Nat.{ℕ, _+_, _*_, _≤_, _<_}
+use lib.Dec.{ltb}
+use borrow.Author.Tests.{lt-ltb, le-ltb}
+use Rattle.records.specs.Pieces.{many, firsts}
+use Rattle.records.proofs.Checks.{below-or-not}
+use Rattle.records.proofs.Lists.{many-same, firsts-same}
+use Rattle.plan.specs.declared.Plan.{Plan}
+use Rattle.plan.specs.Plan.{Same}
+use Rattle.stream.specs.Kind.{rowsOf}
+use Rattle.stream.specs.Write.{clientBytes, clientRecord, slotByte, slotIn, rowRecord, streamOf}
+
+slot-same : (plan other : Plan) → Same plan other → (x : ℕ) → slotByte plan x ≡ slotByte other x
+unfolding slotByte
+slot-same plan other s x =
+    ⊎-elim
+    (λ (l : x < plan .f). rw (← s .frame, s .owners x l))
+    (λ (l : plan .f ≤ x). rw (← s .frame, le-ltb x (plan .f) l))
+    (below-or-not x (plan .f))
+
+pub same-stream : (plan other : Plan) → Same plan other → streamOf plan ≡ streamOf other
+unfolding streamOf clientRecord rowRecord slotIn
+same-stream plan other s =
+    let clients = many-same (clientRecord plan) (clientRecord other) (plan .n)
+    (λ i l. ap (clientBytes (i + 1)) (s .clients i l)) in
+    let rows =
+    many-same (rowRecord plan) (rowRecord other) (rowsOf (plan .f))
+    (λ j l. rw (firsts-same (slotIn plan j) (slotIn other j) 8 (λ t m. slot-same plan other s (8 * j + t)))) in
+    rw (clients, rows, s .frame, s .count)
