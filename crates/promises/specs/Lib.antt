@@ -1,1 +1,2 @@
 pub mod Trip
+pub mod Readings

@@ -1,5 +1,5 @@
-// What all streams of records share, whatever their kinds: what a check finds, the record that is due at a place,
-// the bytes past the end. `inner` has what asks for room: words of two bytes, and bytes put into a lent output.
+// What all streams of records share, whatever their kinds: what a check finds and the first refusal of two, the record
+// due at a place, the bytes past the end. `inner` has what asks for room: words, and bytes put into a lent output.
 pub mod inner; // inner.rt
 pub mod refusal; // refusal.rt
 
@@ -39,7 +39,7 @@ pub fn kind_at(s: &[u8], at: usize) -> u8
     if s.len() <= at { 0 } else { s[at] }
 }
 
-// The record at a place, its kind's class 0 where it is due and else the refusal; its body this many bytes.
+// A record at a place: its class is 0 where its kind is due, else the refusal; its body has this many bytes.
 pub fn check_record(s: &[u8], at: usize, class: u8, body: usize) -> Outcome
     ensures { λ r. ⌜ r ≡ recordCheck (now (s .entry)) at class body ⌝ }
 {

@@ -17,9 +17,9 @@ use Rattle.plan.specs.declared.Plan.{Plan}
 use Rattle.plan.specs.Check.{frameCheck, countCheck, clientCheck, ownerCheck, planCheck}
 use Rattle.plan.proofs.Numbers.{frame-numbered, count-numbered, client-numbered, owner-numbered, plan-numbered}
 use Rattle.stream.specs.Kind.{headKind, clientKind, rowKind, endKind, bodyOf, reserved, classOf, rowsOf}
-use Rattle.stream.specs.Read.{after, place, dueCheck, headCheck, clientAt, numberCheck, clientRead, clientDue}
+use Rattle.stream.specs.Read.{after, place, dueCheck, headRead, clientAt, numberCheck, clientRead, clientDue}
 use Rattle.stream.specs.Read.{slotCheck}
-use Rattle.stream.specs.Read.{slotDue, rowRead, rowDue, endRead, toClients, toRows, toEnd, restCheck, readCheck}
+use Rattle.stream.specs.Read.{slotDue, rowRead, rowDue, endRead, toClients, toRows, toEnd, restRead, readCheck}
 use Rattle.stream.specs.Write.{streamOf, writeCheck}
 
 OfReading : Outcome → Type 0
@@ -37,8 +37,8 @@ due-numbered s at due =
     record-numbered refusal.pastFrame s at (classOf due kind) (bodyOf kind) (omega arith)
     (class-most (reserved kind) (eqb kind due))
 
-head-numbered : (s : List ℕ) → OfReading (headCheck s)
-unfolding OfReading headCheck
+head-numbered : (s : List ℕ) → OfReading (headRead s)
+unfolding OfReading headRead
 head-numbered s =
     let frame : Outcome = frameCheck (getD s 1 0) in
     let count : Outcome = countCheck (getD s 2 0) in
@@ -77,8 +77,8 @@ end-numbered s at =
     or-each OfReading (dueCheck s at endKind) (overCheck s (after s at)) (due-numbered s at endKind)
     (over-numbered refusal.pastFrame s (after s at) (omega arith))
 
-rest-numbered : (s : List ℕ) (f n : ℕ) → OfReading (restCheck s f n)
-unfolding OfReading restCheck clientDue rowDue
+rest-numbered : (s : List ℕ) (f n : ℕ) → OfReading (restRead s f n)
+unfolding OfReading restRead clientDue rowDue
 rest-numbered s f n =
     let clients : Outcome = firstOf (clientDue s (toClients s)) n in
     let rows : Outcome = firstOf (rowDue s f n (toRows s n)) (rowsOf f) in
@@ -94,7 +94,7 @@ rest-numbered s f n =
 pub read-numbered : (s : List ℕ) → Numbered refusal.pastFrame (readCheck s)
 unfolding OfReading readCheck
 read-numbered s =
-    or-each OfReading (headCheck s) (restCheck s (getD s 1 0) (getD s 2 0)) (head-numbered s)
+    or-each OfReading (headRead s) (restRead s (getD s 1 0) (getD s 2 0)) (head-numbered s)
     (rest-numbered s (getD s 1 0) (getD s 2 0))
 
 pub write-numbered : (plan : Plan) (room : ℕ) → Numbered refusal.room (writeCheck plan room)

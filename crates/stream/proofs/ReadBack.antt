@@ -24,9 +24,9 @@ use Rattle.plan.specs.Plan.{noClient, clientOf, ownerOf, used}
 use Rattle.plan.specs.Check.{frameCheck, countCheck, clientCheck, planCheck}
 use Rattle.plan.proofs.Laws.{Checked, Required, frame-pass, count-pass, client-pass, owner-pass, plan-fine}
 use Rattle.stream.specs.Kind.{headKind, clientKind, rowKind, endKind, wholeOf, classOf, rowsOf}
-use Rattle.stream.specs.Read.{after, place, dueCheck, headCheck, clientAt, numberCheck, clientRead, clientDue}
+use Rattle.stream.specs.Read.{after, place, dueCheck, headRead, clientAt, numberCheck, clientRead, clientDue}
 use Rattle.stream.specs.Read.{slotCheck}
-use Rattle.stream.specs.Read.{slotDue, rowRead, rowDue, endRead, toClients, toRows, toEnd, restCheck, readCheck}
+use Rattle.stream.specs.Read.{slotDue, rowRead, rowDue, endRead, toClients, toRows, toEnd, restRead, readCheck}
 use Rattle.stream.specs.Read.{clientIn, ownerIn, planOf, readOf}
 use Rattle.stream.specs.Trip.{Words, Held}
 use Rattle.stream.specs.Write.{headBytes, clientBytes, clientRecord, slotByte, slotIn, rowRecord, streamOf}
@@ -214,8 +214,8 @@ module _ (plan : Plan) (ok : Checked plan) (held : Held plan) where
       }
 
   -- every check passes
-  head-forth : headCheck (streamOf plan) ≡ Fine
-  unfolding headCheck streamOf classOf
+  head-forth : headRead (streamOf plan) ≡ Fine
+  unfolding headRead streamOf classOf
   head-forth =
       let n = length-stream plan in
       let due : dueCheck (streamOf plan) 0 headKind ≡ Fine =
@@ -252,7 +252,7 @@ module _ (plan : Plan) (ok : Checked plan) (held : Held plan) where
       simp (due, over)
 
   read-forth : readCheck (streamOf plan) ≡ Fine
-  unfolding readCheck restCheck
+  unfolding readCheck restRead
   read-forth = rw (head-forth, f-at, n-at, clients-forth, rows-forth, end-forth)
 
   -- every number is found

@@ -16,9 +16,9 @@ use Rattle.records.specs.declared.Outcome.the-variants.{Fine}
 use Rattle.records.proofs.Checks.{both-fine, need-fine, first-fine, record-fine, record-pass, over-fine}
 use Rattle.plan.proofs.Laws.{Required, frame-fine, count-fine, client-fine}
 use Rattle.stream.specs.Kind.{headKind, clientKind, rowKind, endKind, bodyOf, wholeOf, reserved, classOf, rowsOf}
-use Rattle.stream.specs.Read.{after, place, dueCheck, headCheck, clientAt, numberCheck, clientRead, clientDue}
+use Rattle.stream.specs.Read.{after, place, dueCheck, headRead, clientAt, numberCheck, clientRead, clientDue}
 use Rattle.stream.specs.Read.{slotDue}
-use Rattle.stream.specs.Read.{rowRead, rowDue, endRead, toClients, toRows, toEnd, restCheck, readCheck}
+use Rattle.stream.specs.Read.{rowRead, rowDue, endRead, toClients, toRows, toEnd, restRead, readCheck}
 
 -- ---- a record where a kind is due
 
@@ -71,8 +71,8 @@ pub record HeadFine (s : List ℕ) : Type 0 where
   pub n-low : 1 ≤ getD s 2 0
   pub n-high : getD s 2 0 ≤ 8
 
-pub head-fine : (s : List ℕ) → headCheck s ≡ Fine → HeadFine s
-unfolding headCheck
+pub head-fine : (s : List ℕ) → headRead s ≡ Fine → HeadFine s
+unfolding headRead
 head-fine s h =
     let a = both-fine _ _ h in
     let b = both-fine _ _ (a .1) in
@@ -81,7 +81,7 @@ head-fine s h =
     record { whole = due-fine s 0 headKind (a .0); f-low = f .0; f-high = f .1; n-low = n .0; n-high = n .1 }
 
 -- the same of what a check found, v
-pub head-found : (s : List ℕ) {v : Outcome} → v ≡ headCheck s → v ≡ Fine → HeadFine s
+pub head-found : (s : List ℕ) {v : Outcome} → v ≡ headRead s → v ≡ Fine → HeadFine s
 head-found s e h = head-fine s (sym e ∙ h)
 
 pub record ClientFine (s : List ℕ) (at number : ℕ) : Type 0 where
@@ -139,8 +139,8 @@ pub record RestFine (s : List ℕ) (f n : ℕ) : Type 0 where
   pub end : Whole s (toEnd s f n) endKind
   pub last : length s ≤ toEnd s f n + wholeOf endKind
 
-pub rest-fine : (s : List ℕ) (f n : ℕ) → restCheck s f n ≡ Fine → RestFine s f n
-unfolding restCheck endRead
+pub rest-fine : (s : List ℕ) (f n : ℕ) → restRead s f n ≡ Fine → RestFine s f n
+unfolding restRead endRead
 rest-fine s f n h =
     let a = both-fine _ _ h in
     let b = both-fine _ _ (a .1) in

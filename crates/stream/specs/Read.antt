@@ -33,9 +33,9 @@ place s at (suc k) = after s (place s at k)
 unfoldable pub dueCheck : List ℕ → ℕ → ℕ → Outcome
 dueCheck s at due = recordCheck s at (classOf due (getD s at 0)) (bodyOf (getD s at 0))
 
--- f, n
-unfoldable pub headCheck : List ℕ → Outcome
-headCheck s = orElse (dueCheck s 0 headKind) (orElse (frameCheck (getD s 1 0)) (countCheck (getD s 2 0)))
+-- the head's record: "fields left to right", 5 and 6
+unfoldable pub headRead : List ℕ → Outcome
+headRead s = orElse (dueCheck s 0 headKind) (orElse (frameCheck (getD s 1 0)) (countCheck (getD s 2 0)))
 
 -- a client's record: the requirements in it
 unfoldable pub clientAt : List ℕ → ℕ → Client
@@ -48,8 +48,8 @@ numberCheck found number at = need (eqb found number) refusal.notNext at
 -- "for a client 7, 8, 9"
 unfoldable pub clientRead : List ℕ → ℕ → ℕ → Outcome
 clientRead s at number =
-    orElse (dueCheck s at clientKind) (orElse (numberCheck (getD s (at + 1) 0) number at)
-    (clientCheck (clientAt s at) at))
+    orElse (dueCheck s at clientKind)
+    (orElse (numberCheck (getD s (at + 1) 0) number at) (clientCheck (clientAt s at) at))
 
 -- client i + 1, where the clients' records begin at a place
 unfoldable pub clientDue : List ℕ → ℕ → ℕ → Outcome
@@ -59,7 +59,7 @@ clientDue s at i = clientRead s (place s at i) (i + 1)
 unfoldable pub slotCheck : ℕ → ℕ → ℕ → ℕ → ℕ → Outcome
 slotCheck f n x byte at = pick (ltb x f) (ownerCheck byte n at) (need (eqb byte 255) refusal.pastFrame at)
 
--- row j: the bytes of its eight slots
+-- slot t of row j, and the row's record: its eight slots left to right
 unfoldable pub slotDue : List ℕ → ℕ → ℕ → ℕ → ℕ → ℕ → Outcome
 slotDue s f n at j t = slotCheck f n (8 * j + t) (getD s (at + (1 + t)) 0) at
 
@@ -84,20 +84,22 @@ toRows s n = place s (toClients s) n
 abbrev pub toEnd : List ℕ → ℕ → ℕ → ℕ
 toEnd s f n = place s (toRows s n) (rowsOf f)
 
--- "one kind 1, then clients 1 to n, then as many kind 3 as f needs, then kind 9"
-unfoldable pub restCheck : List ℕ → ℕ → ℕ → Outcome
-restCheck s f n =
+-- "one kind 1, then clients 1 to n, then as many kind 3 as f needs, then kind 9"; what follows the head, and the whole
+unfoldable pub restRead : List ℕ → ℕ → ℕ → Outcome
+restRead s f n =
     orElse (firstOf (clientDue s (toClients s)) n)
     (orElse (firstOf (rowDue s f n (toRows s n)) (rowsOf f)) (endRead s (toEnd s f n)))
 
 unfoldable pub readCheck : List ℕ → Outcome
-readCheck s = orElse (headCheck s) (restCheck s (getD s 1 0) (getD s 2 0))
+readCheck s = orElse (headRead s) (restRead s (getD s 1 0) (getD s 2 0))
 
 -- ---- the plan that a stream holds, 0 past f and past n
 
+-- client i + 1, where the clients' records begin at a place
 unfoldable pub clientIn : List ℕ → ℕ → ℕ → Client
 clientIn s at i = clientAt s (place s at i)
 
+-- the owner of slot x, where the rows begin at a place
 unfoldable pub ownerIn : List ℕ → ℕ → ℕ → ℕ
 ownerIn s at x = getD s (place s at (x / 8) + (1 + x % 8)) 0
 

@@ -19,9 +19,9 @@ ghost use Rattle.records.specs.Pieces.{padded};
 ghost use Rattle.records.specs.declared.Outcome.the-variants.{Fine};
 ghost use Rattle.plan.specs.Plan.{noClient};
 ghost use Rattle.stream.specs.Kind.{clientKind, rowKind, wholeOf, rowsOf};
-ghost use Rattle.stream.specs.Read.{after, place, dueCheck, headCheck, clientAt, numberCheck, clientRead};
-ghost use Rattle.stream.specs.Read.{clientDue, slotCheck, slotDue, rowRead, rowDue, endRead, restCheck, readCheck};
-ghost use Rattle.stream.specs.Read.{clientIn, ownerIn, planOf};
+ghost use Rattle.stream.specs.Read.{after, place, dueCheck, headRead, clientAt, numberCheck, clientRead};
+ghost use Rattle.stream.specs.Read.{clientDue, slotCheck, slotDue, rowRead, rowDue, endRead};
+ghost use Rattle.stream.specs.Read.{restRead, readCheck, clientIn, ownerIn, planOf};
 
 // ---- places
 
@@ -59,7 +59,7 @@ fn check_due(s: &[u8], at: usize, due: u8) -> Outcome
 
 // The record of f and n: 5, 6.
 fn check_head(s: &[u8]) -> Outcome
-    ensures { λ r. ⌜ r ≡ headCheck (now (s .entry)) ⌝ }
+    ensures { λ r. ⌜ r ≡ headRead (now (s .entry)) ⌝ }
 {
     let due = check_due(s, 0, kind::HEAD);
     if let Outcome::Refused(number, offset) = due {
@@ -200,7 +200,7 @@ fn check_end(s: &[u8], at: usize) -> Outcome
 // All that follows the head.
 fn check_rest(s: &[u8], f: usize, n: usize) -> Outcome
     requires { ⌜ (f ≤ 64) × (n ≤ 8) ⌝ }
-    ensures { λ r. ⌜ r ≡ restCheck (now (s .entry)) f n ⌝ }
+    ensures { λ r. ⌜ r ≡ restRead (now (s .entry)) f n ⌝ }
 {
     let to_clients = after(s, 0);
     let clients = check_clients(s, to_clients, n);

@@ -4,7 +4,7 @@ use native.Mathlib.Omega.{arith}
 use borrow.Author.Needs.{needs}
 use Rattle.records.proofs.Checks.{stops, passes}
 use Rattle.stream.specs.Kind.{headKind}
-use Rattle.stream.specs.Read.{headCheck}
+use Rattle.stream.specs.Read.{headRead}
 use Rattle.stream.proofs.Records.{due-found}
 use Rattle.stream.proofs.reader.check_head.Statement.{statement}
 use Rattle.stream.proofs.reader.check_head.Tie as tie
@@ -16,7 +16,7 @@ enum-known-due : tie.Need-enum-known-due
 enum-known-due c = search needs
 
 returns : tie.Need-returns
-unfolding headCheck
+unfolding headRead
 returns c =
     let check-due = c .before .before .before .check-due in
     stops _ (check-due .ensures) (c .before .due .given .1)
@@ -51,7 +51,7 @@ or-else-requires : tie.Need-or-else-requires
 or-else-requires c κs = search needs
 
 returns-2 : tie.Need-returns-2
-unfolding headCheck
+unfolding headRead
 returns-2 c =
     let check-due = c .before .before .before .before .before .before .before .before .before .check-due in
     let enum-told = c .before .before .before .before .before .before .before .enum-told in

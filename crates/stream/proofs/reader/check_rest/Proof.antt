@@ -3,7 +3,7 @@
 -- Assumes nothing.
 use borrow.Author.Needs.{needs}
 use Rattle.records.proofs.Checks.{stops, passes}
-use Rattle.stream.specs.Read.{after, place, restCheck}
+use Rattle.stream.specs.Read.{after, place, restRead}
 use Rattle.stream.proofs.reader.check_rest.Statement.{statement}
 use Rattle.stream.proofs.reader.check_rest.Tie as tie
 
@@ -17,7 +17,7 @@ enum-known-clients : tie.Need-enum-known-clients
 enum-known-clients c = search needs
 
 returns : tie.Need-returns
-unfolding restCheck
+unfolding restRead
 returns c =
     let after′ = c .before .before .before .before .after in
     let check-clients = c .before .before .before .check-clients in
@@ -36,7 +36,7 @@ enum-known-rows : tie.Need-enum-known-rows
 enum-known-rows c = search needs
 
 returns-2 : tie.Need-returns-2
-unfolding restCheck
+unfolding restRead
 returns-2 c =
     let after′ = c .before .before .before .before .before .before .before .before .after in
     let check-clients = c .before .before .before .before .before .before .before .check-clients in
@@ -60,7 +60,7 @@ check-end-requires : tie.Need-check-end-requires
 check-end-requires c κs = search needs
 
 returns-3 : tie.Need-returns-3
-unfolding restCheck
+unfolding restRead
 returns-3 c =
     let after′ = c .before .before .before .before .before .before .before .before .before .after in
     let check-clients = c .before .before .before .before .before .before .before .before .check-clients in
