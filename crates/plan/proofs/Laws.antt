@@ -8,33 +8,19 @@ use native.Mathlib.Nat.{add-mod-right}
 use native.Mathlib.Omega.{arith}
 use lib.Dec.{eqb}
 use borrow.Author.Tests.{leb-true, le-leb}
+use Rattle.records.specs.Refusal as refusal
 use Rattle.records.specs.First.{pick}
 use Rattle.records.specs.declared.Outcome.the-variants.{Fine}
-use Rattle.records.proofs.Checks.{between-true, both-fine, need-fine, first-fine, first-all, first-same}
+use Rattle.records.proofs.Checks.{between-true, both-fine, need-fine, range-fine, range-pass, first-fine, first-all}
+use Rattle.records.proofs.Checks.{first-same}
 use Rattle.records.proofs.Lists.{get-padded, padded-same}
 use Rattle.plan.specs.declared.Client.{Client}
 use Rattle.plan.specs.declared.Plan.{Plan}
 use Rattle.plan.specs.Plan.{noClient, clientOf, ownerOf, ownOf, Same, used}
-use Rattle.plan.specs.Check.{frameCheck, countCheck, clientCheck, ownerCheck, clientStep, requirementsCheck}
+use Rattle.plan.specs.Check.{clientCheck, ownerCheck, clientStep, requirementsCheck}
 use Rattle.plan.specs.Check.{ownerStep, ownersCheck, planCheck}
 
 -- ---- one check
-
-pub frame-fine : (f : ℕ) → frameCheck f ≡ Fine → (1 ≤ f) × (f ≤ 64)
-unfolding frameCheck
-frame-fine f h = between-true 1 f 64 (need-fine _ _ _ h)
-
-pub frame-pass : (f : ℕ) → 1 ≤ f → f ≤ 64 → frameCheck f ≡ Fine
-unfolding frameCheck
-frame-pass f l h = simp (le-leb 1 f l, le-leb f 64 h)
-
-pub count-fine : (n : ℕ) → countCheck n ≡ Fine → (1 ≤ n) × (n ≤ 8)
-unfolding countCheck
-count-fine n h = between-true 1 n 8 (need-fine _ _ _ h)
-
-pub count-pass : (n : ℕ) → 1 ≤ n → n ≤ 8 → countCheck n ≡ Fine
-unfolding countCheck
-count-pass n l h = simp (le-leb 1 n l, le-leb n 8 h)
 
 -- what a client's requirements have that pass
 pub record Required (c : Client) : Type 0 where
@@ -79,8 +65,8 @@ unfolding requirementsCheck clientStep
 requirements-fine plan h =
     let a = both-fine _ _ h in
     let b = both-fine _ _ (a .1) in
-    let f = frame-fine (plan .f) (a .0) in
-    let n = count-fine (plan .n) (b .0) in
+    let f = range-fine (plan .f) 64 refusal.frame (a .0) in
+    let n = range-fine (plan .n) 8 refusal.count (b .0) in
     record {
       f-low = f .0;
       f-high = f .1;
@@ -93,8 +79,8 @@ pub requirements-pass : (plan : Plan) → InBounds plan → requirementsCheck pl
 unfolding requirementsCheck clientStep
 requirements-pass plan b =
     rw (
-      frame-pass (plan .f) (b .f-low) (b .f-high),
-      count-pass (plan .n) (b .n-low) (b .n-high),
+      range-pass (plan .f) 64 refusal.frame (b .f-low) (b .f-high),
+      range-pass (plan .n) 8 refusal.count (b .n-low) (b .n-high),
     )
     (first-all (clientStep plan) (plan .n) (λ i l. client-pass (clientOf plan i) 0 (b .required i l)))
 

@@ -9,7 +9,7 @@ use Rattle.records.specs.Refusal as refusal
 use Rattle.records.specs.First.{between, need, orElse, firstOf, offsetOf, Numbered}
 use Rattle.records.specs.declared.Outcome.{Outcome}
 use Rattle.records.specs.declared.Outcome.the-variants.{Fine}
-use Rattle.records.proofs.Numbers.{or-each, first-each, need-numbered, need-unread}
+use Rattle.records.proofs.Numbers.{or-each, first-each, need-numbered, range-numbered, need-unread, range-unread}
 use Rattle.plan.specs.declared.Client.{Client}
 use Rattle.plan.specs.declared.Plan.{Plan}
 use Rattle.plan.specs.Plan.{clientOf, ownerOf}
@@ -31,14 +31,6 @@ plan-each P z frame count client owner plan =
 
 -- ---- numbers
 
-pub frame-numbered : (most f : ℕ) → refusal.owner ≤ most → Numbered most (frameCheck f)
-unfolding frameCheck
-frame-numbered most f h = need-numbered most (between 1 f 64) refusal.frame 0 (omega arith) (omega arith)
-
-pub count-numbered : (most n : ℕ) → refusal.owner ≤ most → Numbered most (countCheck n)
-unfolding countCheck
-count-numbered most n h = need-numbered most (between 1 n 8) refusal.count 0 (omega arith) (omega arith)
-
 pub client-numbered : (most : ℕ) (c : Client) (offset : ℕ) → refusal.owner ≤ most → Numbered most (clientCheck c offset)
 unfolding clientCheck
 client-numbered most c offset h =
@@ -54,19 +46,19 @@ owner-numbered most owner n offset h = need-numbered most (leb owner n) refusal.
 pub plan-numbered : (most : ℕ) → refusal.owner ≤ most → (plan : Plan) → Numbered most (planCheck plan)
 plan-numbered most h =
     plan-each (Numbered most) (inl refl)
-    (λ f. frame-numbered most f h)
-    (λ n. count-numbered most n h)
+    (λ f. range-numbered most f 64 refusal.frame (omega arith) (omega arith))
+    (λ n. range-numbered most n 8 refusal.count (omega arith) (omega arith))
     (λ c. client-numbered most c 0 h)
     (λ owner n. owner-numbered most owner n 0 h)
 
 -- ---- offsets
 
 pub plan-unread : (plan : Plan) → offsetOf (planCheck plan) ≡ 0
-unfolding frameCheck countCheck clientCheck ownerCheck
+unfolding clientCheck ownerCheck
 plan-unread =
     plan-each (λ (o : Outcome). offsetOf o ≡ 0) refl
-    (λ f. need-unread (between 1 f 64) refusal.frame)
-    (λ n. need-unread (between 1 n 8) refusal.count)
+    (λ f. range-unread f 64 refusal.frame)
+    (λ n. range-unread n 8 refusal.count)
     (λ c.
     or-each (λ (o : Outcome). offsetOf o ≡ 0)
     (need (between 1 (c .p) (c .q)) refusal.rate 0) (need (leb 1 (c .b)) refusal.latency 0)

@@ -2,19 +2,19 @@
 use Prim.Native.Nat.{ℕ}
 use lib.Dec.{leb}
 use Rattle.records.specs.Refusal as refusal
-use Rattle.records.specs.First.{between, need, orElse, firstOf}
+use Rattle.records.specs.First.{between, need, rangeCheck, orElse, firstOf}
 use Rattle.records.specs.declared.Outcome.{Outcome}
 use Rattle.plan.specs.declared.Client.{Client}
 use Rattle.plan.specs.declared.Plan.{Plan}
 use Rattle.plan.specs.Plan.{clientOf, ownerOf}
 
 -- 5: f is not 1 to 64
-unfoldable pub frameCheck : ℕ → Outcome
-frameCheck f = need (between 1 f 64) refusal.frame 0
+abbrev pub frameCheck : ℕ → Outcome
+frameCheck f = rangeCheck f 64 refusal.frame
 
 -- 6: n is not 1 to 8
-unfoldable pub countCheck : ℕ → Outcome
-countCheck n = need (between 1 n 8) refusal.count 0
+abbrev pub countCheck : ℕ → Outcome
+countCheck n = rangeCheck n 8 refusal.count
 
 -- 8: p is 0, q is 0 or p > q, that is, p is not 1 to q; then 9: b is 0
 unfoldable pub clientCheck : Client → ℕ → Outcome

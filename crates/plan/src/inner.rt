@@ -2,6 +2,7 @@
 use super::Client;
 use super::Plan;
 use records::Outcome;
+use records::check_range;
 use records::refusal;
 use records::wide;
 ghost use mathlib.Core.Path.{_≡_};
@@ -13,26 +14,14 @@ ghost use Rattle.plan.specs.Check.{frameCheck, countCheck, clientCheck, 
 pub fn check_frame(f: usize) -> Outcome
     ensures { λ r. ⌜ r ≡ frameCheck f ⌝ }
 {
-    if f < 1 {
-        return Outcome::Refused(refusal::FRAME, 0);
-    }
-    if 64 < f {
-        return Outcome::Refused(refusal::FRAME, 0);
-    }
-    Outcome::Fine
+    check_range(f, 64, refusal::FRAME)
 }
 
 // 6: n is 1 to 8.
 pub fn check_count(n: usize) -> Outcome
     ensures { λ r. ⌜ r ≡ countCheck n ⌝ }
 {
-    if n < 1 {
-        return Outcome::Refused(refusal::COUNT, 0);
-    }
-    if 8 < n {
-        return Outcome::Refused(refusal::COUNT, 0);
-    }
-    Outcome::Fine
+    check_range(n, 8, refusal::COUNT)
 }
 
 // 8, then 9: p is 1 to q, and b is not 0.

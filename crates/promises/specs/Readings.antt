@@ -13,7 +13,8 @@ pub data Example : Type 0 where
 
 -- the number and the offset are those of the reading
 abbrev pub holds : Example → Bool
-holds (gives s number offset) = pick (eqb (numberOf (readOf s .outcome)) number) (eqb (offsetOf (readOf s .outcome)) offset) false
+holds (gives s number offset) =
+    pick (eqb (numberOf (readOf s .outcome)) number) (eqb (offsetOf (readOf s .outcome)) offset) false
 
 abbrev pub all : List Example → Bool
 all [] = true

@@ -11,7 +11,7 @@ use native.Mathlib.Omega.{arith}
 use lib.Dec.{ltb, leb}
 use lib.ListN.{length}
 use borrow.Author.Tests.{ltb-true, ltb-false, leb-true, eqb-true, lt-ltb, le-ltb, le-leb, lt-leb, eq-eqb, ne-eqb}
-use Rattle.records.specs.First.{pick, between, need, orElse, firstOf}
+use Rattle.records.specs.First.{pick, between, need, rangeCheck, orElse, firstOf}
 use Rattle.records.specs.Record.{recordCheck, overCheck}
 use Rattle.records.specs.declared.Outcome.{Outcome}
 use Rattle.records.specs.declared.Outcome.the-variants.{Fine, Refused}
@@ -47,6 +47,14 @@ not-fine {A} {k} {offset} h = let z : _≡_ {A = ℕ} 0 1 = cc in absurd (omega 
 pub need-fine : (b : Bool) (k offset : ℕ) → need b k offset ≡ Fine → b ≡ true
 need-fine true k offset h = refl
 need-fine false k offset h = not-fine h
+
+pub range-fine : (x high k : ℕ) → rangeCheck x high k ≡ Fine → (1 ≤ x) × (x ≤ high)
+unfolding rangeCheck
+range-fine x high k h = between-true 1 x high (need-fine (between 1 x high) k 0 h)
+
+pub range-pass : (x high k : ℕ) → 1 ≤ x → x ≤ high → rangeCheck x high k ≡ Fine
+unfolding rangeCheck
+range-pass x high k l h = simp (le-leb 1 x l, le-leb x high h)
 
 pub both-fine : (x y : Outcome) → orElse x y ≡ Fine → (x ≡ Fine) × (y ≡ Fine)
 both-fine Fine y h = (refl, h)

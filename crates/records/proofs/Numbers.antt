@@ -11,7 +11,7 @@ use lib.Dec.{ltb, leb, eqb}
 use lib.ListN.{length}
 use borrow.Author.Tests.{eqb-false}
 use Rattle.records.specs.Refusal as refusal
-use Rattle.records.specs.First.{need, orElse, firstOf, numberOf, offsetOf, Numbered}
+use Rattle.records.specs.First.{between, need, rangeCheck, orElse, firstOf, numberOf, offsetOf, Numbered}
 use Rattle.records.specs.Record.{recordCheck, overCheck}
 use Rattle.records.specs.declared.Outcome.{Outcome}
 use Rattle.records.specs.declared.Outcome.the-variants.{Fine, Refused}
@@ -32,6 +32,10 @@ first-each P z g h (suc n) = or-each P (firstOf g n) (g n) (first-each P z g h n
 pub need-numbered : (most : ℕ) (b : Bool) (k offset : ℕ) → 1 ≤ k → k ≤ most → Numbered most (need b k offset)
 need-numbered most true k offset l h = inl refl
 need-numbered most false k offset l h = inr (l, h)
+
+pub range-numbered : (most x high k : ℕ) → 1 ≤ k → k ≤ most → Numbered most (rangeCheck x high k)
+unfolding rangeCheck
+range-numbered most x high k l h = need-numbered most (between 1 x high) k 0 l h
 
 -- a number 0 says that nothing is refused
 pub numbered-fine : (most : ℕ) (o : Outcome) → Numbered most o → numberOf o ≡ 0 → o ≡ Fine
@@ -64,3 +68,7 @@ over-numbered most s at h = need-numbered most (leb (length s) at) refusal.follo
 pub need-unread : (b : Bool) (k : ℕ) → offsetOf (need b k 0) ≡ 0
 need-unread true k = refl
 need-unread false k = refl
+
+pub range-unread : (x high k : ℕ) → offsetOf (rangeCheck x high k) ≡ 0
+unfolding rangeCheck
+range-unread x high k = need-unread (between 1 x high) k

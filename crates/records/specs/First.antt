@@ -21,6 +21,10 @@ abbrev pub need : Bool → ℕ → ℕ → Outcome
 need true k offset = Fine
 need false k offset = Refused k offset
 
+-- refusal k where x is not 1 to high, outside reading
+unfoldable pub rangeCheck : ℕ → ℕ → ℕ → Outcome
+rangeCheck x high k = need (between 1 x high) k 0
+
 -- the first check's refusal, else what the second check finds
 abbrev pub orElse : Outcome → Outcome → Outcome
 orElse Fine y = y

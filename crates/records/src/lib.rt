@@ -6,7 +6,7 @@ pub mod refusal; // refusal.rt
 ghost use mathlib.Core.Path.{_≡_};
 ghost use Prim.Native.Nat.{_<_};
 ghost use lib.ListN.{getD};
-ghost use Rattle.records.specs.First.{orElse};
+ghost use Rattle.records.specs.First.{orElse, rangeCheck};
 ghost use Rattle.records.specs.Record.{recordCheck, overCheck};
 
 // What a check finds: nothing, or a refusal's number and offset (0 where no stream is read).
@@ -23,6 +23,19 @@ pub fn or_else(first: Outcome, second: Outcome) -> Outcome
         Outcome::Fine => second,
         Outcome::Refused(number, offset) => Outcome::Refused(number, offset),
     }
+}
+
+// A number that is to be 1 to high, outside reading.
+pub fn check_range(x: usize, high: usize, number: u8) -> Outcome
+    ensures { λ r. ⌜ r ≡ rangeCheck x high number ⌝ }
+{
+    if x < 1 {
+        return Outcome::Refused(number, 0);
+    }
+    if high < x {
+        return Outcome::Refused(number, 0);
+    }
+    Outcome::Fine
 }
 
 // A byte as a number that can be an index.

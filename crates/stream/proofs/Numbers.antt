@@ -12,10 +12,10 @@ use Rattle.records.specs.Refusal as refusal
 use Rattle.records.specs.First.{pick, need, orElse, firstOf, Numbered}
 use Rattle.records.specs.Record.{overCheck}
 use Rattle.records.specs.declared.Outcome.{Outcome}
-use Rattle.records.proofs.Numbers.{or-each, first-each, need-numbered, record-numbered, over-numbered}
+use Rattle.records.proofs.Numbers.{or-each, first-each, need-numbered, range-numbered, record-numbered, over-numbered}
 use Rattle.plan.specs.declared.Plan.{Plan}
 use Rattle.plan.specs.Check.{frameCheck, countCheck, clientCheck, ownerCheck, planCheck}
-use Rattle.plan.proofs.Numbers.{frame-numbered, count-numbered, client-numbered, owner-numbered, plan-numbered}
+use Rattle.plan.proofs.Numbers.{client-numbered, owner-numbered, plan-numbered}
 use Rattle.stream.specs.Kind.{headKind, clientKind, rowKind, endKind, bodyOf, reserved, classOf, rowsOf}
 use Rattle.stream.specs.Read.{after, place, dueCheck, headRead, clientAt, numberCheck, clientRead, clientDue}
 use Rattle.stream.specs.Read.{slotCheck}
@@ -43,8 +43,9 @@ head-numbered s =
     let frame : Outcome = frameCheck (getD s 1 0) in
     let count : Outcome = countCheck (getD s 2 0) in
     or-each OfReading (dueCheck s 0 headKind) (orElse frame count) (due-numbered s 0 headKind)
-    (or-each OfReading frame count (frame-numbered refusal.pastFrame (getD s 1 0) (omega arith))
-    (count-numbered refusal.pastFrame (getD s 2 0) (omega arith)))
+    (or-each OfReading frame count (range-numbered refusal.pastFrame (getD s 1 0) 64 refusal.frame (omega arith)
+    (omega arith))
+    (range-numbered refusal.pastFrame (getD s 2 0) 8 refusal.count (omega arith) (omega arith)))
 
 client-read-numbered : (s : List ℕ) (at number : ℕ) → OfReading (clientRead s at number)
 unfolding OfReading clientRead numberCheck

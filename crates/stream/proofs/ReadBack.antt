@@ -10,11 +10,12 @@ use native.Mathlib.Omega.{arith}
 use lib.ListN.{length, getD, length-append}
 use lib.Seq.{getD-at}
 use borrow.Author.Tests.{lt-ltb, le-ltb, eq-eqb}
+use Rattle.records.specs.Refusal as refusal
 use Rattle.records.specs.First.{firstOf}
 use Rattle.records.specs.Pieces.{many, firsts, part}
 use Rattle.records.specs.Record.{overCheck}
 use Rattle.records.specs.declared.Outcome.the-variants.{Fine}
-use Rattle.records.proofs.Checks.{below-or-not, first-all, over-pass}
+use Rattle.records.proofs.Checks.{below-or-not, range-pass, first-all, over-pass}
 use Rattle.records.proofs.Lists.{get-firsts, padded-same}
 use Rattle.records.proofs.Parts.{part-get, part-first, part-many, many-room}
 use Rattle.records.proofs.Words.{word-same}
@@ -22,7 +23,7 @@ use Rattle.plan.specs.declared.Client.{Client}
 use Rattle.plan.specs.declared.Plan.{Plan}
 use Rattle.plan.specs.Plan.{noClient, clientOf, ownerOf, used}
 use Rattle.plan.specs.Check.{frameCheck, countCheck, clientCheck, planCheck}
-use Rattle.plan.proofs.Laws.{Checked, Required, frame-pass, count-pass, client-pass, owner-pass, plan-fine}
+use Rattle.plan.proofs.Laws.{Checked, Required, client-pass, owner-pass, plan-fine}
 use Rattle.stream.specs.Kind.{headKind, clientKind, rowKind, endKind, wholeOf, classOf, rowsOf}
 use Rattle.stream.specs.Read.{after, place, dueCheck, headRead, clientAt, numberCheck, clientRead, clientDue}
 use Rattle.stream.specs.Read.{slotCheck}
@@ -221,8 +222,8 @@ module _ (plan : Plan) (ok : Checked plan) (held : Held plan) where
       let due : dueCheck (streamOf plan) 0 headKind ≡ Fine =
       due-pass (streamOf plan) 0 headKind refl (record { found = refl; room = omega arith }) in
       let b = ok .bounds in
-      let frame : frameCheck (plan .f) ≡ Fine = frame-pass (plan .f) (b .f-low) (b .f-high) in
-      let count : countCheck (plan .n) ≡ Fine = count-pass (plan .n) (b .n-low) (b .n-high) in
+      let frame : frameCheck (plan .f) ≡ Fine = range-pass (plan .f) 64 refusal.frame (b .f-low) (b .f-high) in
+      let count : countCheck (plan .n) ≡ Fine = range-pass (plan .n) 8 refusal.count (b .n-low) (b .n-high) in
       simp (due, frame, count)
 
   clients-forth : firstOf (clientDue (streamOf plan) (toClients (streamOf plan))) (plan .n) ≡ Fine

@@ -13,8 +13,8 @@ use Rattle.records.specs.Refusal as refusal
 use Rattle.records.specs.First.{pick, firstOf}
 use Rattle.records.specs.declared.Outcome.{Outcome}
 use Rattle.records.specs.declared.Outcome.the-variants.{Fine}
-use Rattle.records.proofs.Checks.{both-fine, need-fine, first-fine, record-fine, record-pass, over-fine}
-use Rattle.plan.proofs.Laws.{Required, frame-fine, count-fine, client-fine}
+use Rattle.records.proofs.Checks.{both-fine, need-fine, range-fine, first-fine, record-fine, record-pass, over-fine}
+use Rattle.plan.proofs.Laws.{Required, client-fine}
 use Rattle.stream.specs.Kind.{headKind, clientKind, rowKind, endKind, bodyOf, wholeOf, reserved, classOf, rowsOf}
 use Rattle.stream.specs.Read.{after, place, dueCheck, headRead, clientAt, numberCheck, clientRead, clientDue}
 use Rattle.stream.specs.Read.{slotDue}
@@ -76,8 +76,8 @@ unfolding headRead
 head-fine s h =
     let a = both-fine _ _ h in
     let b = both-fine _ _ (a .1) in
-    let f = frame-fine (getD s 1 0) (b .0) in
-    let n = count-fine (getD s 2 0) (b .1) in
+    let f = range-fine (getD s 1 0) 64 refusal.frame (b .0) in
+    let n = range-fine (getD s 2 0) 8 refusal.count (b .1) in
     record { whole = due-fine s 0 headKind (a .0); f-low = f .0; f-high = f .1; n-low = n .0; n-high = n .1 }
 
 -- the same of what a check found, v

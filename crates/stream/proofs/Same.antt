@@ -1,11 +1,9 @@
 -- Plans that are the same have the same stream: places past f and past n are not written.
 -- Assumes nothing.
-use mathlib.Core.Path.{_≡_, refl, ap}
+use mathlib.Core.Path.{_≡_, ap}
 use mathlib.Core.Logic.{⊎-elim}
 use Prim.Native.Nat.{ℕ, _+_, _*_, _≤_, _<_}
-use lib.Dec.{ltb}
-use borrow.Author.Tests.{lt-ltb, le-ltb}
-use Rattle.records.specs.Pieces.{many, firsts}
+use borrow.Author.Tests.{le-ltb}
 use Rattle.records.proofs.Checks.{below-or-not}
 use Rattle.records.proofs.Lists.{many-same, firsts-same}
 use Rattle.plan.specs.declared.Plan.{Plan}

@@ -2,9 +2,9 @@
 -- Assumes nothing.
 use mathlib.Core.Path.{sym, _∙_}
 use borrow.Author.Needs.{needs}
-use Rattle.records.proofs.Checks.{stops, passes}
+use Rattle.records.specs.Refusal as refusal
+use Rattle.records.proofs.Checks.{range-fine, stops, passes}
 use Rattle.plan.specs.Check.{requirementsCheck}
-use Rattle.plan.proofs.Laws.{count-fine}
 use Rattle.plan.proofs.check_requirements.Statement.{statement}
 use Rattle.plan.proofs.check_requirements.Tie as tie
 
@@ -44,7 +44,7 @@ check-clients-requires : tie.Need-check-clients-requires
 check-clients-requires c κs =
     let args = c .before .before .before .before .before .before .args in
     let check-count = c .before .before .check-count in
-    count-fine (args .plan .n) (sym (check-count .ensures) ∙ c .enum-told2 .given .1) .1
+    range-fine (args .plan .n) 8 refusal.count (sym (check-count .ensures) ∙ c .enum-told2 .given .1) .1
 
 returns-3 : tie.Need-returns-3
 unfolding requirementsCheck
