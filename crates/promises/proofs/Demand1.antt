@@ -15,32 +15,33 @@ use Rattle.records.specs.declared.Outcome.{Outcome}
 use Rattle.records.specs.declared.Outcome.the-variants.{Fine, Refused}
 use Rattle.plan.specs.declared.Plan.{Plan}
 use Rattle.plan.specs.Plan.{noPlan, Same}
-use Rattle.plan.specs.Check.{planCheck, requirementsCheck}
+use Rattle.plan.specs.Check.{planCheck}
 use Rattle.plan.proofs.Laws.{Checked, plan-fine, plan-pass, same-check}
 use Rattle.plan.proofs.Numbers.{plan-numbered, plan-unread}
 use Rattle.stream.specs.Read.{readCheck, planOf, planIf, readOf}
-use Rattle.stream.specs.Write.{streamOf, writeCheck, writtenBy, writtenOf, bytesBy, bytesOf, Wrote}
-use Rattle.stream.specs.Write as write
-use Rattle.stream.specs.declared.Reading.{Reading}
+use Rattle.stream.specs.Write.{streamOf, writeCheck, writtenBy, writtenOf, writtenNumber, writtenSize, bytesBy}
+use Rattle.stream.specs.Write.{bytesOf, Wrote}
 use Rattle.stream.specs.declared.Written.{Written}
+use Rattle.promises.specs.Trip.{Copied}
 use Rattle.stream.proofs.Same.{same-stream}
 use Rattle.stream.proofs.Numbers.{read-numbered, write-numbered}
 
 -- ---- any two outcomes coincide
 
-pub check-once : (plan : Plan) (r r′ : Outcome) → r ≡ planCheck plan → r′ ≡ planCheck plan → r ≡ r′
-check-once plan r r′ h h′ = h ∙ sym h′
+-- where the contract is an equation, `r ≡ x`: all of records' and plan's entries, `stream::read`, `reread`
+pub once : {A : Type 0} (x r r′ : A) → r ≡ x → r′ ≡ x → r ≡ r′
+once x r r′ h h′ = h ∙ sym h′
 
-pub requirements-once : (plan : Plan) (r r′ : Outcome) → r ≡ requirementsCheck plan → r′ ≡ requirementsCheck plan
-    → r ≡ r′
-requirements-once plan r r′ h h′ = h ∙ sym h′
-
-pub read-once : (s : List ℕ) (r r′ : Reading) → r ≡ readOf s → r′ ≡ readOf s → r ≡ r′
-read-once s r r′ h h′ = h ∙ sym h′
-
+-- where there are lent bytes, too: `stream::write` and `rewritten`
 pub write-once : (plan : Plan) (out : List ℕ) (r r′ : Written) (now now′ : List ℕ) → Wrote plan out r now
     → Wrote plan out r′ now′ → (r ≡ r′) × (now ≡ now′)
-write-once plan out r r′ now now′ h h′ = (h .answer ∙ sym (h′ .answer), h .bytes ∙ sym (h′ .bytes))
+write-once plan out r r′ now now′ h h′ =
+    (once _ r r′ (h .answer) (h′ .answer), once _ now now′ (h .bytes) (h′ .bytes))
+
+pub rewritten-once : (s out : List ℕ) (r r′ : Written) (now now′ : List ℕ) → Copied s out r now → Copied s out r′ now′
+    → (r ≡ r′) × (now ≡ now′)
+rewritten-once s out r r′ now now′ h h′ =
+    (once _ r r′ (h .answer) (h′ .answer), once _ now now′ (h .bytes) (h′ .bytes))
 
 -- ---- "Each refusal has its number"
 
@@ -66,11 +67,10 @@ check-same = same-check
 pub write-same : (plan other : Plan) (out : List ℕ) → Same plan other
     → (writtenOf plan (length out) ≡ writtenOf other (length out)) × (bytesOf plan out ≡ bytesOf other out)
 unfolding writtenOf bytesOf writeCheck
-write-same plan other out s = (
-  rw (same-check plan other s, same-stream plan other s),
-  rw
-      (same-check plan other s, same-stream plan other s),
-)
+write-same plan other out s =
+    let e = same-check plan other s in
+    let f = same-stream plan other s in
+    (rw (e, f), rw (e, f))
 
 -- ---- what a refusal returns
 
@@ -87,11 +87,11 @@ read-refused s h = plan-by (readCheck s) (planOf s) h
 pub check-offset : (plan : Plan) → offsetOf (planCheck plan) ≡ 0
 check-offset = plan-unread
 
-number-by : (o : Outcome) (size : ℕ) → write.numberOf (writtenBy o size) ≡ numberOf o
+number-by : (o : Outcome) (size : ℕ) → writtenNumber (writtenBy o size) ≡ numberOf o
 number-by Fine size = refl
 number-by (Refused k offset) size = refl
 
-size-by : (o : Outcome) (size : ℕ) → (numberOf o ≡ 0 → ⊥) → write.sizeOf (writtenBy o size) ≡ 0
+size-by : (o : Outcome) (size : ℕ) → (numberOf o ≡ 0 → ⊥) → writtenSize (writtenBy o size) ≡ 0
 size-by Fine size h = absurd (h refl)
 size-by (Refused k offset) size h = refl
 
@@ -100,8 +100,8 @@ bytes-by Fine stream out h = absurd (h refl)
 bytes-by (Refused k offset) stream out h = refl
 
 -- "leaves a lent output untouched"
-pub write-refused : (plan : Plan) (out : List ℕ) → (write.numberOf (writtenOf plan (length out)) ≡ 0 → ⊥)
-    → (write.sizeOf (writtenOf plan (length out)) ≡ 0) × (bytesOf plan out ≡ out)
+pub write-refused : (plan : Plan) (out : List ℕ) → (writtenNumber (writtenOf plan (length out)) ≡ 0 → ⊥)
+    → (writtenSize (writtenOf plan (length out)) ≡ 0) × (bytesOf plan out ≡ out)
 unfolding writtenOf bytesOf
 write-refused plan out h =
     let o : Outcome = writeCheck plan (length out) in

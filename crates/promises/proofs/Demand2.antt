@@ -16,7 +16,7 @@ use Rattle.records.proofs.Words.{Bytes}
 use Rattle.plan.specs.declared.Plan.{Plan}
 use Rattle.plan.specs.Plan.{Same, used}
 use Rattle.plan.specs.Check.{planCheck}
-use Rattle.plan.proofs.Laws.{used-same}
+use Rattle.plan.proofs.Laws.{used-same, same-used, same-check}
 use Rattle.stream.specs.Kind.{rowsOf}
 use Rattle.stream.specs.Read.{planOf, planIf, readCheck, readOf}
 use Rattle.stream.specs.Trip.{Held}
@@ -25,6 +25,7 @@ use Rattle.stream.specs.declared.Reading.{Reading}
 use Rattle.stream.proofs.Lengths.{length-stream, stream-sizes}
 use Rattle.stream.proofs.ReadBack.{read-back as stream-read-back}
 use Rattle.stream.proofs.WrittenBack.{written-back as stream-written-back, plan-right}
+use Rattle.promises.specs.Trip.{rereadOf}
 use Rattle.promises.proofs.Demand1.{read-number, check-number}
 
 -- what a read that is not refused gives
@@ -54,6 +55,11 @@ pub read-back : (plan : Plan) → Held plan → numberOf (planCheck plan) ≡ 0 
 read-back plan held h =
     let e = stream-read-back plan held (numbered-fine 10 (planCheck plan) (check-number plan) h) in
     rw e (record { number = refl; same = used-same plan; zeros = refl })
+
+-- "Plans are the same when f, n and the used places agree": they are read back as one
+pub reread-same : (plan other : Plan) → Same plan other → rereadOf plan ≡ rereadOf other
+unfolding rereadOf
+reread-same plan other s = rw (same-check plan other s, same-used plan other s)
 
 -- "The length is 4 + 10n + 9 × (f/8 rounded up): 23 to 156 bytes"
 pub record Sized (plan : Plan) : Type 0 where

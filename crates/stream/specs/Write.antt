@@ -76,10 +76,10 @@ pub record Wrote (plan : Plan) (out : List ℕ) (r : Written) (now : List ℕ) :
   pub bytes : now ≡ bytesOf plan out
 
 -- the document's number and value of an answer: a refusal has its number and "all other results 0"
-abbrev pub numberOf : Written → ℕ
-numberOf (written.Bytes size) = 0
-numberOf (written.Refused k) = k
+abbrev pub writtenNumber : Written → ℕ
+writtenNumber (written.Bytes size) = 0
+writtenNumber (written.Refused k) = k
 
-abbrev pub sizeOf : Written → ℕ
-sizeOf (written.Bytes size) = size
-sizeOf (written.Refused k) = 0
+abbrev pub writtenSize : Written → ℕ
+writtenSize (written.Bytes size) = size
+writtenSize (written.Refused k) = 0
