@@ -25,21 +25,23 @@ clientCheck c offset = orElse (need (between 1 (c .p) (c .q)) refusal.rate offse
 unfoldable pub ownerCheck : ℕ → ℕ → ℕ → Outcome
 ownerCheck owner n offset = need (leb owner n) refusal.owner offset
 
--- the requirements: 5, 6, then 8 and 9 client by client
+-- client i + 1 of a plan
 unfoldable pub clientStep : Plan → ℕ → Outcome
 clientStep plan i = clientCheck (clientOf plan i) 0
 
+-- the requirements: "5, 6, then 8 and 9 client by client"
 unfoldable pub requirementsCheck : Plan → Outcome
 requirementsCheck plan =
     orElse (frameCheck (plan .f)) (orElse (countCheck (plan .n)) (firstOf (clientStep plan) (plan .n)))
 
--- the owners: 10 slot by slot
+-- slot x of a plan
 unfoldable pub ownerStep : Plan → ℕ → Outcome
 ownerStep plan x = ownerCheck (ownerOf plan x) (plan .n) 0
 
+-- the owners: "then 10 slot by slot"
 unfoldable pub ownersCheck : Plan → Outcome
 ownersCheck plan = firstOf (ownerStep plan) (plan .f)
 
--- the whole plan
+-- the whole plan: "All else that takes a plan checks it first"
 unfoldable pub planCheck : Plan → Outcome
 planCheck plan = orElse (requirementsCheck plan) (ownersCheck plan)

@@ -8,17 +8,19 @@ use Rattle.records.specs.Pieces.{padded}
 use Rattle.plan.specs.declared.Client.{Client}
 use Rattle.plan.specs.declared.Plan.{Plan}
 
--- "a plan with every number 0", and its clients
+-- a client with every number 0, as it stands past n
 abbrev pub noClient : Client
 noClient = record { p = 0; q = 0; a = 0; b = 0 }
 
+-- "a plan with every number 0"
 abbrev pub noPlan : Plan
 noPlan = record { f = 0; n = 0; clients = replicate 8 noClient; owners = replicate 64 0 }
 
--- client i + 1 of a plan, and the owner of slot x
+-- client i + 1 of a plan: "Clients are numbered from 1"
 abbrev pub clientOf : Plan → ℕ → Client
 clientOf plan i = getD (plan .clients) i noClient
 
+-- the owner of slot x: "0 for idle, or a client"
 abbrev pub ownerOf : Plan → ℕ → ℕ
 ownerOf plan x = getD (plan .owners) x 0
 

@@ -16,20 +16,24 @@ abbrev pub holds : Example → Bool
 holds (gives s number offset) =
     pick (eqb (numberOf (readOf s .outcome)) number) (eqb (offsetOf (readOf s .outcome)) offset) false
 
+-- all examples of a list hold
 abbrev pub all : List Example → Bool
 all [] = true
 all (e ∷ es) = pick (holds e) (all es) false
 
--- f 2, n 1, the client's rate 1/2 and latency 3/1, owners 1 0
+-- a head: f 2, n 1
 abbrev pub head : List ℕ
 head = 1 ∷ 2 ∷ 1 ∷ []
 
+-- its client: rate 1/2, latency 3/1
 abbrev pub client : List ℕ
 client = 2 ∷ 1 ∷ 0 ∷ 1 ∷ 0 ∷ 2 ∷ 0 ∷ 3 ∷ 0 ∷ 1 ∷ []
 
+-- its row: owners 1 and 0
 abbrev pub row : List ℕ
 row = 3 ∷ 1 ∷ 0 ∷ 255 ∷ 255 ∷ 255 ∷ 255 ∷ 255 ∷ 255 ∷ []
 
+-- a whole plan, and then each refusal of reading
 unfoldable pub examples : List Example
 examples =
     gives (head ++ client ++ row ++ (9 ∷ [])) 0 0

@@ -7,10 +7,11 @@ use Rattle.records.specs.Refusal as refusal
 use Rattle.records.specs.First.{need, orElse}
 use Rattle.records.specs.declared.Outcome.{Outcome}
 
--- "Numbers of two bytes have the high byte first": such a number's bytes, and the number of the bytes at a place
+-- "Numbers of two bytes have the high byte first": the bytes of a number
 abbrev pub be : ℕ → List ℕ
 be x = x / 256 % 256 ∷ x % 256 ∷ []
 
+-- and the number of the two bytes at a place
 abbrev pub word : List ℕ → ℕ → ℕ
 word s at = getD s at 0 * 256 + getD s (at + 1) 0
 

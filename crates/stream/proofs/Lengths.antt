@@ -11,7 +11,7 @@ use Rattle.plan.specs.declared.Client.{Client}
 use Rattle.plan.specs.declared.Plan.{Plan}
 use Rattle.plan.specs.Check.{planCheck}
 use Rattle.plan.proofs.Laws.{plan-fine}
-use Rattle.stream.specs.Kind.{clientKind, rowKind, wholeOf, rowsOf}
+use Rattle.stream.specs.Kind.{headKind, clientKind, rowKind, endKind, wholeOf, rowsOf}
 use Rattle.stream.specs.Write.{clientBytes, clientRecord, rowRecord, streamOf}
 
 pub length-client : (number : ℕ) (c : Client) → length (clientBytes number c) ≡ wholeOf clientKind
@@ -29,10 +29,17 @@ length-row plan j = refl
 pub length-rows : (plan : Plan) (m : ℕ) → length (many (rowRecord plan) m) ≡ wholeOf rowKind * m
 length-rows plan m = length-many (rowRecord plan) (wholeOf rowKind) (length-row plan) m
 
-pub length-stream : (plan : Plan) → length (streamOf plan) ≡ 4 + 10 * plan .n + 9 * rowsOf (plan .f)
+-- whatever the lengths of its records
+pub length-parts : (plan : Plan) → length (streamOf plan)
+    ≡ wholeOf headKind + length (many (clientRecord plan) (plan .n)) + length (many (rowRecord plan) (rowsOf (plan .f)))
+    + wholeOf endKind
 unfolding streamOf
+length-parts plan = simp length-append (omega arith)
+
+-- "The length is 4 + 10n + 9 × (f/8 rounded up)"
+pub length-stream : (plan : Plan) → length (streamOf plan) ≡ 4 + 10 * plan .n + 9 * rowsOf (plan .f)
 length-stream plan =
-    simp length-append (omega (arith, length-clients plan (plan .n), length-rows plan (rowsOf (plan .f))))
+    omega (arith, length-parts plan, length-clients plan (plan .n), length-rows plan (rowsOf (plan .f)))
 
 -- "23 to 156 bytes"
 pub stream-sizes : (plan : Plan) → planCheck plan ≡ Fine → (23 ≤ length (streamOf plan)) ×

@@ -32,7 +32,7 @@ use Rattle.stream.specs.Read.{clientIn, ownerIn, planOf, readOf}
 use Rattle.stream.specs.Trip.{Words, Held}
 use Rattle.stream.specs.Write.{headBytes, clientBytes, clientRecord, slotByte, slotIn, rowRecord, streamOf}
 use Rattle.stream.proofs.Records.{Whole, due-pass, after-whole}
-use Rattle.stream.proofs.Lengths.{length-client, length-row, length-stream}
+use Rattle.stream.proofs.Lengths.{length-client, length-row, length-parts}
 
 -- ---- a record that stands in a stream
 
@@ -218,7 +218,7 @@ module _ (plan : Plan) (ok : Checked plan) (held : Held plan) where
   head-forth : headRead (streamOf plan) ≡ Fine
   unfolding headRead streamOf classOf
   head-forth =
-      let n = length-stream plan in
+      let n = length-parts plan in
       let due : dueCheck (streamOf plan) 0 headKind ≡ Fine =
       due-pass (streamOf plan) 0 headKind refl (record { found = refl; room = omega arith }) in
       let b = ok .bounds in

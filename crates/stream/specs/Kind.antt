@@ -27,6 +27,7 @@ endKind = 9
 abbrev pub bodies : List ℕ
 bodies = 0 ∷ 2 ∷ 9 ∷ 8 ∷ 0 ∷ 0 ∷ 0 ∷ 0 ∷ 0 ∷ 0 ∷ 0 ∷ 0 ∷ 0 ∷ 0 ∷ 0 ∷ 0 ∷ []
 
+-- a kind's body length; 0 past the table, where every kind is reserved
 abbrev pub bodyOf : ℕ → ℕ
 bodyOf kind = getD bodies kind 0
 

@@ -59,10 +59,11 @@ clientDue s at i = clientRead s (place s at i) (i + 1)
 unfoldable pub slotCheck : ℕ → ℕ → ℕ → ℕ → ℕ → Outcome
 slotCheck f n x byte at = pick (ltb x f) (ownerCheck byte n at) (need (eqb byte 255) refusal.pastFrame at)
 
--- slot t of row j, and the row's record: its eight slots left to right
+-- slot t of row j, whose record is at a place
 unfoldable pub slotDue : List ℕ → ℕ → ℕ → ℕ → ℕ → ℕ → Outcome
 slotDue s f n at j t = slotCheck f n (8 * j + t) (getD s (at + (1 + t)) 0) at
 
+-- a row's record: its eight slots left to right
 unfoldable pub rowRead : List ℕ → ℕ → ℕ → ℕ → ℕ → Outcome
 rowRead s f n at j = orElse (dueCheck s at rowKind) (firstOf (slotDue s f n at j) 8)
 
@@ -74,22 +75,25 @@ rowDue s f n at j = rowRead s f n (place s at j) j
 unfoldable pub endRead : List ℕ → ℕ → Outcome
 endRead s at = orElse (dueCheck s at endKind) (overCheck s (after s at))
 
--- where the clients' records, the rows and the end record begin, with n clients and f slots
+-- where the clients' records begin: after the head
 abbrev pub toClients : List ℕ → ℕ
 toClients s = after s 0
 
+-- where the rows begin: after n clients
 abbrev pub toRows : List ℕ → ℕ → ℕ
 toRows s n = place s (toClients s) n
 
+-- where the end record begins: after as many rows as f needs
 abbrev pub toEnd : List ℕ → ℕ → ℕ → ℕ
 toEnd s f n = place s (toRows s n) (rowsOf f)
 
--- "one kind 1, then clients 1 to n, then as many kind 3 as f needs, then kind 9"; what follows the head, and the whole
+-- what follows the head: "then clients 1 to n, then as many kind 3 as f needs, then kind 9"
 unfoldable pub restRead : List ℕ → ℕ → ℕ → Outcome
 restRead s f n =
     orElse (firstOf (clientDue s (toClients s)) n)
     (orElse (firstOf (rowDue s f n (toRows s n)) (rowsOf f)) (endRead s (toEnd s f n)))
 
+-- the whole stream: "Reading goes record by record"
 unfoldable pub readCheck : List ℕ → Outcome
 readCheck s = orElse (headRead s) (restRead s (getD s 1 0) (getD s 2 0))
 
@@ -103,6 +107,7 @@ clientIn s at i = clientAt s (place s at i)
 unfoldable pub ownerIn : List ℕ → ℕ → ℕ → ℕ
 ownerIn s at x = getD s (place s at (x / 8) + (1 + x % 8)) 0
 
+-- f, n, the clients and the owners
 unfoldable pub planOf : List ℕ → Plan
 planOf s =
     record {
@@ -112,11 +117,13 @@ planOf s =
       owners = padded (ownerIn s (toRows s (getD s 2 0))) (getD s 1 0) 64 0;
     }
 
--- ---- the answer: "A refused read returns the number, the offset .. and a plan with every number 0"
+-- ---- the answer
 
+-- the plan, or "a plan with every number 0"
 abbrev pub planIf : Outcome → Plan → Plan
 planIf Fine plan = plan
 planIf (Refused k offset) plan = noPlan
 
+-- "A refused read returns the number, the offset .., and a plan with every number 0"
 unfoldable pub readOf : List ℕ → Reading
 readOf s = record { outcome = readCheck s; plan = planIf (readCheck s) (planOf s) }

@@ -22,12 +22,13 @@ abbrev pub Reread : Plan → Written → List ℕ → Type 0
 Reread plan r out = (size : ℕ) → r ≡ written.Bytes size → readOf
     (take size out) ≡ record { outcome = outcome.Fine; plan = used plan }
 
--- what the type of a client's four numbers says, and that of a plan's clients
+-- what the type of a client's four numbers says
 pub record Words (c : Client) : Type 0 where
   pub p : c .p < 65536
   pub q : c .q < 65536
   pub a : c .a < 65536
   pub b : c .b < 65536
 
+-- and that of a plan's clients
 abbrev pub Held : Plan → Type 0
 Held plan = (i : ℕ) → i < plan .n → Words (clientOf plan i)

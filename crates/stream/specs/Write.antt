@@ -28,6 +28,7 @@ headBytes plan = headKind ∷ plan .f ∷ plan .n ∷ []
 unfoldable pub clientBytes : ℕ → Client → List ℕ
 clientBytes number c = clientKind ∷ number ∷ be (c .p) ++ be (c .q) ++ be (c .a) ++ be (c .b)
 
+-- the record of client i + 1
 unfoldable pub clientRecord : Plan → ℕ → List ℕ
 clientRecord plan i = clientBytes (i + 1) (clientOf plan i)
 
@@ -35,10 +36,11 @@ clientRecord plan i = clientBytes (i + 1) (clientOf plan i)
 unfoldable pub slotByte : Plan → ℕ → ℕ
 slotByte plan x = pick (ltb x (plan .f)) (ownerOf plan x) 255
 
--- kind 3: the owners of the next eight slots
+-- slot t of row j
 unfoldable pub slotIn : Plan → ℕ → ℕ → ℕ
 slotIn plan j t = slotByte plan (8 * j + t)
 
+-- kind 3: the owners of the next eight slots
 unfoldable pub rowRecord : Plan → ℕ → List ℕ
 rowRecord plan j = rowKind ∷ firsts (slotIn plan j) 8
 
@@ -53,20 +55,21 @@ streamOf plan =
 unfoldable pub writeCheck : Plan → ℕ → Outcome
 writeCheck plan room = orElse (planCheck plan) (need (leb (length (streamOf plan)) room) refusal.room 0)
 
--- the answer: the stream's length, or the refusal's number
+-- an outcome as an answer: the stream's length, or the refusal's number
 abbrev pub writtenBy : Outcome → ℕ → Written
 writtenBy outcome.Fine size = written.Bytes size
 writtenBy (outcome.Refused k offset) size = written.Refused k
 
+-- the answer of a write
 unfoldable pub writtenOf : Plan → ℕ → Written
 writtenOf plan room = writtenBy (writeCheck plan room) (length (streamOf plan))
 
--- the lent bytes after: "A write that succeeds touches only the stream's length of bytes", a refusal "leaves a lent
--- output untouched"
+-- "A write that succeeds touches only the stream's length of bytes"; a refusal "leaves a lent output untouched"
 abbrev pub bytesBy : Outcome → List ℕ → List ℕ → List ℕ
 bytesBy outcome.Fine stream out = stream ++ drop (length stream) out
 bytesBy (outcome.Refused k offset) stream out = out
 
+-- the lent bytes after a write
 unfoldable pub bytesOf : Plan → List ℕ → List ℕ
 bytesOf plan out = bytesBy (writeCheck plan (length out)) (streamOf plan) out
 
@@ -75,11 +78,12 @@ pub record Wrote (plan : Plan) (out : List ℕ) (r : Written) (now : List ℕ) :
   pub answer : r ≡ writtenOf plan (length out)
   pub bytes : now ≡ bytesOf plan out
 
--- the document's number and value of an answer: a refusal has its number and "all other results 0"
+-- the document's number of an answer, 0 where nothing is refused
 abbrev pub writtenNumber : Written → ℕ
 writtenNumber (written.Bytes size) = 0
 writtenNumber (written.Refused k) = k
 
+-- its other result, the length: a refusal gives "all other results 0"
 abbrev pub writtenSize : Written → ℕ
 writtenSize (written.Bytes size) = size
 writtenSize (written.Refused k) = 0

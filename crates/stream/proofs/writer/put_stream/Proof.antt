@@ -2,39 +2,33 @@
 -- asks is part of the stream's.
 -- Assumes nothing.
 use native.Mathlib.Omega.{arith}
+use lib.ListN.{length}
 use borrow.Author.Needs.{needs}
 use Rattle.records.proofs.Puts.{then, put-length}
-use Rattle.stream.specs.Kind.{rowsOf}
 use Rattle.stream.specs.Read.{place}
 use Rattle.stream.specs.Write.{streamOf}
-use Rattle.stream.proofs.Lengths.{length-clients, length-rows, length-stream}
+use Rattle.stream.proofs.Lengths.{length-parts}
 use Rattle.stream.proofs.writer.put_stream.Statement.{statement}
 use Rattle.stream.proofs.writer.put_stream.Tie as tie
 
 put-head-requires : tie.Need-put-head-requires
-put-head-requires c κs = let e = length-stream (c .before .before .args .plan) in
-    (search needs, search needs, omega arith)
+put-head-requires c κs = (search needs, search needs, omega (arith, length-parts (c .before .before .args .plan)))
 
 put-clients-requires : tie.Need-put-clients-requires
 put-clients-requires c κs =
     let args = c .before .before .before .before .before .before .args in
     let put-head = c .before .before .before .put-head in
-    let plan = args .plan in
-    let e = length-stream plan in
-    let n = length-clients plan (plan .n) in
-    (search needs, omega (arith, put-head .ensures .place, put-length (put-head .ensures)))
+    let head = put-head .ensures in
+    (search needs, omega (arith, length-parts (args .plan), head .place, put-length head))
 
 put-rows-requires : tie.Need-put-rows-requires
 put-rows-requires c κs =
     let args = c .before .before .before .before .before .before .before .before .before .before .args in
     let put-head = c .before .before .before .before .before .before .before .put-head in
     let put-clients = c .before .before .before .put-clients in
-    let plan = args .plan in
     let head = put-head .ensures in
     let clients = put-clients .ensures .0 in
-    let e = length-stream plan in
-    let n = length-clients plan (plan .n) in
-    let m = length-rows plan (rowsOf (plan .f)) in
+    let length = length-parts (args .plan) in
     (search needs, omega (arith, head .place, clients .place, put-length head, put-length clients))
 
 put-byte-requires : tie.Need-put-byte-requires
@@ -43,13 +37,10 @@ put-byte-requires c κs =
     let at-put-clients = at-put-rows .before .before .before .before in
     let at-put-head = at-put-clients .before .before .before .before in
     let at-args = at-put-head .before .before .before in
-    let plan = at-args .args .plan in
     let head = at-put-head .put-head .ensures in
     let clients = at-put-clients .put-clients .ensures .0 in
     let rows = at-put-rows .put-rows .ensures in
-    let e = length-stream plan in
-    let n = length-clients plan (plan .n) in
-    let m = length-rows plan (rowsOf (plan .f)) in
+    let length = length-parts (at-args .args .plan) in
     omega (arith, head .place, clients .place, rows .place, put-length head, put-length clients, put-length rows)
 
 same-length : tie.Need-same-length

@@ -1,8 +1,9 @@
--- `stream::writer::stream_length` meets its contract: it is the sum of its records' lengths.
+-- `stream::writer::stream_length` meets its contract: it is the sum of its parts' lengths.
 -- Assumes nothing.
 use native.Mathlib.Omega.{arith}
 use borrow.Author.Needs.{needs}
-use Rattle.stream.proofs.Lengths.{length-clients, length-stream}
+use Rattle.stream.specs.Kind.{rowsOf}
+use Rattle.stream.proofs.Lengths.{length-rows, length-parts}
 use Rattle.stream.proofs.writer.stream_length.Statement.{statement}
 use Rattle.stream.proofs.writer.stream_length.Tie as tie
 
@@ -34,9 +35,7 @@ returns : tie.Need-returns
 returns c =
     let args = c .before .before .before .before .before .args in
     let plan = args .plan in
-    let e = length-clients plan (plan .n) in
-    let s = length-stream plan in
-    omega arith
+    omega (arith, length-parts plan, length-rows plan (rowsOf (plan .f)))
 
 pub stream-length-spec : {M : Type 1} → statement M
 stream-length-spec =
