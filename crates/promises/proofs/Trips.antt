@@ -66,8 +66,8 @@ kept-by : (o : Outcome) (stream out : List ℕ) → (o ≡ outcome.Fine → leng
 kept-by outcome.Fine stream out h = let l = h refl in simp (length-append, length-drop) (omega arith)
 kept-by (outcome.Refused k offset) stream out h = refl
 
-room : (plan : Plan) (n : ℕ) → writeCheck plan n ≡ outcome.Fine → (planCheck plan ≡ outcome.Fine) ×
-    (length (streamOf plan) ≤ n)
+room : (plan : Plan) (n : ℕ) → writeCheck plan n ≡ outcome.Fine
+    → (planCheck plan ≡ outcome.Fine) × (length (streamOf plan) ≤ n)
 unfolding writeCheck
 room plan n h =
     let test : Bool = leb (length (streamOf plan)) n in

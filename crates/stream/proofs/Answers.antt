@@ -30,11 +30,11 @@ unfolding readOf
 read-given s {v} {plan} e h p = let q : readCheck s ≡ outcome.Fine = sym e ∙ h in rw (q, h, p)
 
 pub read-refused : (s : List ℕ) {v : Outcome} {plan : Plan} {k offset : ℕ} → v ≡ readCheck s
-    → v ≡ outcome.Refused k offset
-    → plan ≡ noPlan → record { outcome = v; plan = plan } ≡ readOf s
+    → v ≡ outcome.Refused k offset → plan ≡ noPlan → record { outcome = v; plan = plan } ≡ readOf s
 unfolding readOf
-read-refused s {v} {plan} {k} {offset} e h p = let q : readCheck s ≡ outcome.Refused k offset = sym e ∙ h in rw
-    (q, h, p)
+read-refused s {v} {plan} {k} {offset} e h p =
+    let q : readCheck s ≡ outcome.Refused k offset = sym e ∙ h in
+    rw (q, h, p)
 
 -- a stream of bytes that is read is written back
 pub rewritten : (s : List ℕ) {r : Reading} → Bytes s → r ≡ readOf s → Rewritten s r
@@ -59,8 +59,8 @@ plan-refused plan out {k} {offset} e = wrote-by plan out (outcome.Refused k offs
 pub room-refused : (plan : Plan) (out : List ℕ) → planCheck plan ≡ outcome.Fine → length out < length (streamOf plan)
     → Wrote plan out (written.Refused refusal.room) out
 unfolding writeCheck
-room-refused plan out e l = wrote-by plan out (outcome.Refused refusal.room 0)
-    (simp (e, lt-leb (length (streamOf plan)) (length out) l))
+room-refused plan out e l =
+    wrote-by plan out (outcome.Refused refusal.room 0) (simp (e, lt-leb (length (streamOf plan)) (length out) l))
 
 pub given : (plan : Plan) (out : List ℕ) → planCheck plan ≡ outcome.Fine → length (streamOf plan) ≤ length out
     → Wrote plan out (written.Bytes (length (streamOf plan))) (streamOf plan ++ drop (length (streamOf plan)) out)

@@ -42,8 +42,8 @@ length-stream plan =
     omega (arith, length-parts plan, length-clients plan (plan .n), length-rows plan (rowsOf (plan .f)))
 
 -- "23 to 156 bytes"
-pub stream-sizes : (plan : Plan) → planCheck plan ≡ Fine → (23 ≤ length (streamOf plan)) ×
-    (length (streamOf plan) ≤ 156)
+pub stream-sizes : (plan : Plan) → planCheck plan ≡ Fine
+    → (23 ≤ length (streamOf plan)) × (length (streamOf plan) ≤ 156)
 stream-sizes plan h =
     let b = plan-fine plan h .bounds in
     let e = length-stream plan in

@@ -17,7 +17,8 @@ use Rattle.plan.specs.declared.Plan.{Plan}
 use Rattle.plan.specs.Check.{frameCheck, countCheck, clientCheck, ownerCheck, planCheck}
 use Rattle.plan.proofs.Numbers.{client-numbered, owner-numbered, plan-numbered}
 use Rattle.stream.specs.Kind.{headKind, clientKind, rowKind, endKind, bodyOf, reserved, classOf, rowsOf}
-use Rattle.stream.specs.Read.{after, place, dueCheck, headRead, clientAt, numberCheck, clientRead, clientDue}
+use Rattle.stream.specs.Read.{fIn, nIn, after, place, dueCheck, headRead, clientAt, numberCheck, clientRead}
+use Rattle.stream.specs.Read.{clientDue}
 use Rattle.stream.specs.Read.{slotCheck}
 use Rattle.stream.specs.Read.{slotDue, rowRead, rowDue, endRead, toClients, toRows, toEnd, restRead, readCheck}
 use Rattle.stream.specs.Write.{streamOf, writeCheck}
@@ -40,12 +41,12 @@ due-numbered s at due =
 head-numbered : (s : List ℕ) → OfReading (headRead s)
 unfolding OfReading headRead
 head-numbered s =
-    let frame : Outcome = frameCheck (getD s 1 0) in
-    let count : Outcome = countCheck (getD s 2 0) in
+    let frame : Outcome = frameCheck (fIn s) in
+    let count : Outcome = countCheck (nIn s) in
     or-each OfReading (dueCheck s 0 headKind) (orElse frame count) (due-numbered s 0 headKind)
-    (or-each OfReading frame count (range-numbered refusal.pastFrame (getD s 1 0) 64 refusal.frame (omega arith)
+    (or-each OfReading frame count (range-numbered refusal.pastFrame (fIn s) 64 refusal.frame (omega arith)
     (omega arith))
-    (range-numbered refusal.pastFrame (getD s 2 0) 8 refusal.count (omega arith) (omega arith)))
+    (range-numbered refusal.pastFrame (nIn s) 8 refusal.count (omega arith) (omega arith)))
 
 client-read-numbered : (s : List ℕ) (at number : ℕ) → OfReading (clientRead s at number)
 unfolding OfReading clientRead numberCheck
@@ -95,8 +96,8 @@ rest-numbered s f n =
 pub read-numbered : (s : List ℕ) → Numbered refusal.pastFrame (readCheck s)
 unfolding OfReading readCheck
 read-numbered s =
-    or-each OfReading (headRead s) (restRead s (getD s 1 0) (getD s 2 0)) (head-numbered s)
-    (rest-numbered s (getD s 1 0) (getD s 2 0))
+    or-each OfReading (headRead s) (restRead s (fIn s) (nIn s)) (head-numbered s)
+    (rest-numbered s (fIn s) (nIn s))
 
 pub write-numbered : (plan : Plan) (room : ℕ) → Numbered refusal.room (writeCheck plan room)
 unfolding writeCheck

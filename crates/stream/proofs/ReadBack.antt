@@ -55,14 +55,13 @@ whole s at kind r h e n =
     }
 
 -- each of many records, where the ones before it end
-stands-many : (a r : List ℕ) (g : ℕ → List ℕ) (n i : ℕ) → i < n → Stands (a ++ (many g n ++ r))
-    (length (a ++ many g i)) (g i)
+stands-many : (a r : List ℕ) (g : ℕ → List ℕ) (n i : ℕ) → i < n
+    → Stands (a ++ (many g n ++ r)) (length (a ++ many g i)) (g i)
 stands-many a r g n i l = record { bytes = part-many a r g n i l; room = many-room a r g n i l }
 
 -- records that are each as long as their kind says follow one another as `place` has it
-place-many : (a r : List ℕ) (g : ℕ → List ℕ) (n : ℕ) → ((i : ℕ) → length (g i) ≡ wholeOf (getD (g i) 0 0)) → (i : ℕ)
-    → i ≤ n
-    → place (a ++ (many g n ++ r)) (length a) i ≡ length (a ++ many g i)
+place-many : (a r : List ℕ) (g : ℕ → List ℕ) (n : ℕ) → ((i : ℕ) → length (g i) ≡ wholeOf (getD (g i) 0 0))
+    → (i : ℕ) → i ≤ n → place (a ++ (many g n ++ r)) (length a) i ≡ length (a ++ many g i)
 unfolding place many
 place-many a r g n w zero l = ap length (sym (append-nil a))
 place-many a r g n w (suc i) l =

@@ -16,7 +16,8 @@ use Rattle.records.specs.declared.Outcome.the-variants.{Fine}
 use Rattle.records.proofs.Checks.{both-fine, need-fine, range-fine, first-fine, record-fine, record-pass, over-fine}
 use Rattle.plan.proofs.Laws.{Required, client-fine}
 use Rattle.stream.specs.Kind.{headKind, clientKind, rowKind, endKind, bodyOf, wholeOf, reserved, classOf, rowsOf}
-use Rattle.stream.specs.Read.{after, place, dueCheck, headRead, clientAt, numberCheck, clientRead, clientDue}
+use Rattle.stream.specs.Read.{fIn, nIn, after, place, dueCheck, headRead, clientAt, numberCheck, clientRead}
+use Rattle.stream.specs.Read.{clientDue}
 use Rattle.stream.specs.Read.{slotDue}
 use Rattle.stream.specs.Read.{rowRead, rowDue, endRead, toClients, toRows, toEnd, restRead, readCheck}
 
@@ -66,18 +67,18 @@ place-more s at i = rw add-one
 
 pub record HeadFine (s : List ℕ) : Type 0 where
   pub whole : Whole s 0 headKind
-  pub f-low : 1 ≤ getD s 1 0
-  pub f-high : getD s 1 0 ≤ 64
-  pub n-low : 1 ≤ getD s 2 0
-  pub n-high : getD s 2 0 ≤ 8
+  pub f-low : 1 ≤ fIn s
+  pub f-high : fIn s ≤ 64
+  pub n-low : 1 ≤ nIn s
+  pub n-high : nIn s ≤ 8
 
 pub head-fine : (s : List ℕ) → headRead s ≡ Fine → HeadFine s
 unfolding headRead
 head-fine s h =
     let a = both-fine _ _ h in
     let b = both-fine _ _ (a .1) in
-    let f = range-fine (getD s 1 0) 64 refusal.frame (b .0) in
-    let n = range-fine (getD s 2 0) 8 refusal.count (b .1) in
+    let f = range-fine (fIn s) 64 refusal.frame (b .0) in
+    let n = range-fine (nIn s) 8 refusal.count (b .1) in
     record { whole = due-fine s 0 headKind (a .0); f-low = f .0; f-high = f .1; n-low = n .0; n-high = n .1 }
 
 -- the same of what a check found, v
@@ -155,10 +156,10 @@ rest-fine s f n h =
 
 pub record ReadFine (s : List ℕ) : Type 0 where
   pub head : HeadFine s
-  pub rest : RestFine s (getD s 1 0) (getD s 2 0)
+  pub rest : RestFine s (fIn s) (nIn s)
 
 pub read-fine : (s : List ℕ) → readCheck s ≡ Fine → ReadFine s
 unfolding readCheck
 read-fine s h =
     let a = both-fine _ _ h in
-    record { head = head-fine s (a .0); rest = rest-fine s (getD s 1 0) (getD s 2 0) (a .1) }
+    record { head = head-fine s (a .0); rest = rest-fine s (fIn s) (nIn s) (a .1) }

@@ -22,7 +22,8 @@ use Rattle.plan.specs.Plan.{noClient, clientOf, ownerOf}
 use Rattle.plan.specs.Check.{planCheck}
 use Rattle.plan.proofs.Laws.{Checked, owner-fine, plan-pass}
 use Rattle.stream.specs.Kind.{headKind, clientKind, rowKind, endKind, wholeOf, rowsOf}
-use Rattle.stream.specs.Read.{place, clientAt, slotCheck, slotDue, toClients, toRows, toEnd, readCheck, clientIn}
+use Rattle.stream.specs.Read.{fIn, nIn, place, clientAt, slotCheck, slotDue, toClients, toRows, toEnd, readCheck}
+use Rattle.stream.specs.Read.{clientIn}
 use Rattle.stream.specs.Read.{ownerIn, planOf}
 use Rattle.stream.specs.Write.{headBytes, clientBytes, clientRecord, slotByte, slotIn, rowRecord, streamOf}
 use Rattle.stream.proofs.Records.{ClientFine, RowFine, ReadFine, after-whole, client-at, row-at, read-fine}
@@ -53,27 +54,26 @@ slot-back f n x byte at h =
 -- ---- a stream that passes
 
 module _ (s : List ℕ) (z : ReadFine s) where
-  client-in : (i : ℕ) → i < getD s 2 0 → clientOf (planOf s) i ≡ clientAt s (place s (toClients s) i)
+  client-in : (i : ℕ) → i < nIn s → clientOf (planOf s) i ≡ clientAt s (place s (toClients s) i)
   unfolding planOf clientIn
-  client-in i l = get-padded (clientIn s (toClients s)) (getD s 2 0) 8 noClient i l
+  client-in i l = get-padded (clientIn s (toClients s)) (nIn s) 8 noClient i l
 
-  owner-in : (x : ℕ) → x < getD s 1 0
-      → ownerOf (planOf s) x ≡ getD s (place s (toRows s (getD s 2 0)) (x / 8) + (1 + x % 8)) 0
+  owner-in : (x : ℕ) → x < fIn s
+      → ownerOf (planOf s) x ≡ getD s (place s (toRows s (nIn s)) (x / 8) + (1 + x % 8)) 0
   unfolding planOf ownerIn
-  owner-in x l = get-padded (ownerIn s (toRows s (getD s 2 0))) (getD s 1 0) 64 0 x l
+  owner-in x l = get-padded (ownerIn s (toRows s (nIn s))) (fIn s) 64 0 x l
 
   -- row j of the rows
-  row : (j : ℕ) → j < rowsOf (getD s 1 0) → RowFine s (getD s 1 0) (getD s 2 0) (place s (toRows s (getD s 2 0)) j) j
-  row j l = row-at s (getD s 1 0) (getD s 2 0) (toRows s (getD s 2 0)) (rowsOf (getD s 1 0)) (z .rest .rows) j l
+  row : (j : ℕ) → j < rowsOf (fIn s) → RowFine s (fIn s) (nIn s) (place s (toRows s (nIn s)) j) j
+  row j l = row-at s (fIn s) (nIn s) (toRows s (nIn s)) (rowsOf (fIn s)) (z .rest .rows) j l
 
-  clients-back : Bytes s → many (clientRecord (planOf s)) (getD s 2 0) ++ drop (toRows s (getD s 2 0)) s ≡ drop
-      (toClients s) s
+  clients-back : Bytes s → many (clientRecord (planOf s)) (nIn s) ++ drop (toRows s (nIn s)) s ≡ drop (toClients s) s
   unfolding clientRecord place
   clients-back b =
-      many-part (clientRecord (planOf s)) s (place s (toClients s)) (getD s 2 0)
-      (λ (i : ℕ) (l : i < getD s 2 0).
+      many-part (clientRecord (planOf s)) s (place s (toClients s)) (nIn s)
+      (λ (i : ℕ) (l : i < nIn s).
       let at : ℕ = place s (toClients s) i in
-      let c = client-at s (toClients s) (getD s 2 0) (z .rest .clients) i l in
+      let c = client-at s (toClients s) (nIn s) (z .rest .clients) i l in
       let same : clientBytes (i + 1) (clientAt s at) ≡ clientBytes (i + 1) (clientOf (planOf s) i) =
       ap (clientBytes (i + 1)) (sym (client-in i l)) in
       let w = length-client (i + 1) (clientOf (planOf s) i) in (
@@ -81,12 +81,12 @@ module _ (s : List ℕ) (z : ReadFine s) where
         ap (part s at) w ∙ client-back s at (i + 1) b c ∙ same,
       ))
 
-  slots-back : (j t : ℕ) → j < rowsOf (getD s 1 0) → t < 8
-      → slotIn (planOf s) j t ≡ getD s (place s (toRows s (getD s 2 0)) j + (1 + t)) 0
+  slots-back : (j t : ℕ) → j < rowsOf (fIn s) → t < 8
+      → slotIn (planOf s) j t ≡ getD s (place s (toRows s (nIn s)) j + (1 + t)) 0
   unfolding slotIn slotByte slotDue planOf
   slots-back j t l m =
-      let f : ℕ = getD s 1 0 in
-      let n : ℕ = getD s 2 0 in
+      let f = fIn s in
+      let n = nIn s in
       let at : ℕ = place s (toRows s n) j in
       let x : ℕ = 8 * j + t in
       let byte : ℕ = getD s (at + (1 + t)) 0 in
@@ -99,11 +99,11 @@ module _ (s : List ℕ) (z : ReadFine s) where
       (λ (y : f ≤ x). simp (le-ltb x f y) (rw (le-ltb x f y) at c))
       (below-or-not x f)
 
-  row-back : (j : ℕ) → j < rowsOf (getD s 1 0)
-      → part s (place s (toRows s (getD s 2 0)) j) (wholeOf rowKind) ≡ rowRecord (planOf s) j
+  row-back : (j : ℕ) → j < rowsOf (fIn s)
+      → part s (place s (toRows s (nIn s)) j) (wholeOf rowKind) ≡ rowRecord (planOf s) j
   unfolding rowRecord firsts
   row-back j l =
-      let at : ℕ = place s (toRows s (getD s 2 0)) j in
+      let at : ℕ = place s (toRows s (nIn s)) j in
       let w = row j l .whole in
       let found : getD s (at + 0) 0 ≡ rowKind = ap (λ (x : ℕ). getD s x 0) (add-zero at) ∙ w .found in
       let slots : firsts (λ (t : ℕ). getD s (at + (1 + t)) 0) 8 ≡ firsts (slotIn (planOf s) j) 8 =
@@ -112,21 +112,21 @@ module _ (s : List ℕ) (z : ReadFine s) where
       ∙ ap (λ (k : ℕ). k ∷ firsts (λ (t : ℕ). getD s (at + (1 + t)) 0) 8) found
       ∙ ap (λ (r : List ℕ). rowKind ∷ r) slots
 
-  rows-back : many (rowRecord (planOf s)) (rowsOf (getD s 1 0)) ++ drop (toEnd s (getD s 1 0) (getD s 2 0)) s
-      ≡ drop (toRows s (getD s 2 0)) s
+  rows-back : many (rowRecord (planOf s)) (rowsOf (fIn s)) ++ drop (toEnd s (fIn s) (nIn s)) s
+      ≡ drop (toRows s (nIn s)) s
   unfolding place
   rows-back =
-      many-part (rowRecord (planOf s)) s (place s (toRows s (getD s 2 0))) (rowsOf (getD s 1 0))
-      (λ (j : ℕ) (l : j < rowsOf (getD s 1 0)).
-      let at : ℕ = place s (toRows s (getD s 2 0)) j in
+      many-part (rowRecord (planOf s)) s (place s (toRows s (nIn s))) (rowsOf (fIn s))
+      (λ (j : ℕ) (l : j < rowsOf (fIn s)).
+      let at : ℕ = place s (toRows s (nIn s)) j in
       let w = length-row (planOf s) j in (
         after-whole s at rowKind (row j l .whole .found) ∙ ap (λ (k : ℕ). at + k) (sym w),
         ap (part s at) w ∙ row-back j l,
       ))
 
-  end-back : endKind ∷ [] ≡ drop (toEnd s (getD s 1 0) (getD s 2 0)) s
+  end-back : endKind ∷ [] ≡ drop (toEnd s (fIn s) (nIn s)) s
   end-back =
-      let at : ℕ = toEnd s (getD s 1 0) (getD s 2 0) in
+      let at : ℕ = toEnd s (fIn s) (nIn s) in
       let w = z .rest .end in
       let found : getD s (at + 0) 0 ≡ endKind = ap (λ (x : ℕ). getD s x 0) (add-zero at) ∙ w .found in
       let one : part s at (wholeOf endKind) ≡ endKind ∷ [] =
@@ -141,8 +141,8 @@ module _ (s : List ℕ) (z : ReadFine s) where
   unfolding planOf
   head-back =
       let w = z .head .whole in
-      let three : part s 0 (wholeOf headKind) ≡ headKind ∷ getD s 1 0 ∷ getD s 2 0 ∷ [] =
-      part-run s 0 (wholeOf headKind) (w .room) ∙ ap (λ (k : ℕ). k ∷ getD s 1 0 ∷ getD s 2 0 ∷ []) (w .found) in
+      let three : part s 0 (wholeOf headKind) ≡ headKind ∷ fIn s ∷ nIn s ∷ [] =
+      part-run s 0 (wholeOf headKind) (w .room) ∙ ap (λ (k : ℕ). k ∷ fIn s ∷ nIn s ∷ []) (w .found) in
       ap (λ (k : ℕ). headBytes (planOf s) ++ drop k s) (after-whole s 0 headKind (w .found))
       ∙ ap (λ (r : List ℕ). r ++ drop (wholeOf headKind) s) (sym three)
       ∙ part-rest s 0 (wholeOf headKind)
@@ -152,21 +152,21 @@ module _ (s : List ℕ) (z : ReadFine s) where
   stream-back b =
       let plan = planOf s in
       let head : List ℕ = headBytes plan in
-      let clients : List ℕ = many (clientRecord plan) (getD s 2 0) in
-      let rows : List ℕ = many (rowRecord plan) (rowsOf (getD s 1 0)) in
-      let end : List ℕ = drop (toEnd s (getD s 1 0) (getD s 2 0)) s in
+      let clients : List ℕ = many (clientRecord plan) (nIn s) in
+      let rows : List ℕ = many (rowRecord plan) (rowsOf (fIn s)) in
+      let end : List ℕ = drop (toEnd s (fIn s) (nIn s)) s in
       ap (λ (r : List ℕ). head ++ clients ++ rows ++ r) end-back
       ∙ append-assoc (head ++ clients) rows end
       ∙ ap (λ (r : List ℕ). head ++ clients ++ r) rows-back
-      ∙ append-assoc head clients (drop (toRows s (getD s 2 0)) s)
+      ∙ append-assoc head clients (drop (toRows s (nIn s)) s)
       ∙ ap (λ (r : List ℕ). head ++ r) (clients-back b)
       ∙ head-back
 
   checked : Checked (planOf s)
   unfolding planOf slotDue slotCheck
   checked =
-      let f : ℕ = getD s 1 0 in
-      let n : ℕ = getD s 2 0 in
+      let f = fIn s in
+      let n = nIn s in
       record {
         bounds =
             record {
@@ -182,8 +182,8 @@ module _ (s : List ℕ) (z : ReadFine s) where
             λ (x : ℕ) (l : x < f).
             let at : ℕ = place s (toRows s n) (x / 8) in
             let e : 8 * (x / 8) + x % 8 ≡ x = omega arith in
-            let slot = first-fine (slotDue s f n at (x / 8)) 8 (row (x / 8) (omega arith) .slots) (x % 8)
-            (omega arith) in
+            let slots = row (x / 8) (omega arith) .slots in
+            let slot = first-fine (slotDue s f n at (x / 8)) 8 slots (x % 8) (omega arith) in
             rw (owner-in x l) (owner-fine (getD s (at + (1 + x % 8)) 0) n at (rw (e, lt-ltb x f l) at slot));
       }
 

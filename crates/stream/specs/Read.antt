@@ -33,9 +33,17 @@ place s at (suc k) = after s (place s at k)
 unfoldable pub dueCheck : List ℕ → ℕ → ℕ → Outcome
 dueCheck s at due = recordCheck s at (classOf due (getD s at 0)) (bodyOf (getD s at 0))
 
+-- f, as the head holds it
+abbrev pub fIn : List ℕ → ℕ
+fIn s = getD s 1 0
+
+-- n, as the head holds it
+abbrev pub nIn : List ℕ → ℕ
+nIn s = getD s 2 0
+
 -- the head's record: "fields left to right", 5 and 6
 unfoldable pub headRead : List ℕ → Outcome
-headRead s = orElse (dueCheck s 0 headKind) (orElse (frameCheck (getD s 1 0)) (countCheck (getD s 2 0)))
+headRead s = orElse (dueCheck s 0 headKind) (orElse (frameCheck (fIn s)) (countCheck (nIn s)))
 
 -- a client's record: the requirements in it
 unfoldable pub clientAt : List ℕ → ℕ → Client
@@ -95,7 +103,7 @@ restRead s f n =
 
 -- the whole stream: "Reading goes record by record"
 unfoldable pub readCheck : List ℕ → Outcome
-readCheck s = orElse (headRead s) (restRead s (getD s 1 0) (getD s 2 0))
+readCheck s = orElse (headRead s) (restRead s (fIn s) (nIn s))
 
 -- ---- the plan that a stream holds, 0 past f and past n
 
@@ -111,10 +119,10 @@ ownerIn s at x = getD s (place s at (x / 8) + (1 + x % 8)) 0
 unfoldable pub planOf : List ℕ → Plan
 planOf s =
     record {
-      f = getD s 1 0;
-      n = getD s 2 0;
-      clients = padded (clientIn s (toClients s)) (getD s 2 0) 8 noClient;
-      owners = padded (ownerIn s (toRows s (getD s 2 0))) (getD s 1 0) 64 0;
+      f = fIn s;
+      n = nIn s;
+      clients = padded (clientIn s (toClients s)) (nIn s) 8 noClient;
+      owners = padded (ownerIn s (toRows s (nIn s))) (fIn s) 64 0;
     }
 
 -- ---- the answer

@@ -15,8 +15,9 @@ use Rattle.stream.proofs.reader.check_rows.Statement.{statement}
 use Rattle.stream.proofs.reader.check_rows.Tie as tie
 
 abbrev Inv-loop : tie.InvT-loop
-Inv-loop s f n at rows to₀ j₀ to j = (j ≤ rows) × (firstOf (rowDue s f n at) j ≡ Fine) × (to ≡ place s at j) ×
-    (to ≤ at + 256 * j)
+Inv-loop s f n at rows to₀ j₀ to j =
+    (j ≤ rows) × (firstOf (rowDue s f n at) j ≡ Fine) × (to ≡ place s at j)
+    × (to ≤ at + 256 * j)
 
 abbrev μ-loop : tie.MeasureT-loop
 μ-loop s f n at rows to₀ j₀ to j = rows - j

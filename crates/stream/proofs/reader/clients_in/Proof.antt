@@ -14,8 +14,9 @@ use Rattle.stream.proofs.reader.clients_in.Statement.{statement}
 use Rattle.stream.proofs.reader.clients_in.Tie as tie
 
 abbrev Inv-loop : tie.InvT-loop
-Inv-loop s at n clients₀ to₀ i₀ clients to i = (i ≤ n) × (clients ≡ padded (clientIn s at) i 8 noClient) ×
-    (to ≡ place s at i) × (to ≤ at + 256 * i)
+Inv-loop s at n clients₀ to₀ i₀ clients to i =
+    (i ≤ n) × (clients ≡ padded (clientIn s at) i 8 noClient)
+    × (to ≡ place s at i) × (to ≤ at + 256 * i)
 
 abbrev μ-loop : tie.MeasureT-loop
 μ-loop s at n clients₀ to₀ i₀ clients to i = n - i

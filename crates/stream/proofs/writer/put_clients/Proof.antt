@@ -18,8 +18,9 @@ use Rattle.stream.proofs.writer.put_clients.Statement.{statement}
 use Rattle.stream.proofs.writer.put_clients.Tie as tie
 
 abbrev Inv-loop : tie.InvT-loop
-Inv-loop out₀ at plan n to₀ i₀ out to i = (i ≤ n) × Put out₀ at (many (clientRecord plan) i) out to ×
-    ((k : ℕ) → k < i → Words (clientOf plan k))
+Inv-loop out₀ at plan n to₀ i₀ out to i =
+    (i ≤ n) × Put out₀ at (many (clientRecord plan) i) out to
+    × ((k : ℕ) → k < i → Words (clientOf plan k))
 
 abbrev μ-loop : tie.MeasureT-loop
 μ-loop out₀ at plan n to₀ i₀ out to i = n - i
