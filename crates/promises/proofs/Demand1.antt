@@ -5,7 +5,7 @@
 -- Assumes nothing.
 use mathlib.Core.Path.{_≡_, refl, sym, _∙_}
 use mathlib.Core.List.{List}
-use Prim.Native.Nat.{ℕ}
+use Prim.Native.Nat.{ℕ, _≤_}
 use native.Mathlib.Omega.{arith}
 use lib.ListN.{length, drop}
 use lib.Seq.{drop-at}
@@ -17,7 +17,7 @@ use Rattle.plan.specs.declared.Plan.{Plan}
 use Rattle.plan.specs.Plan.{noPlan, Same}
 use Rattle.plan.specs.Check.{planCheck}
 use Rattle.plan.proofs.Laws.{Checked, plan-fine, plan-pass, same-check}
-use Rattle.plan.proofs.Numbers.{plan-numbered, plan-unread}
+use Rattle.plan.proofs.Refusals.{plan-numbered, plan-unread}
 use Rattle.stream.specs.Read.{readCheck, planOf, planIf, readOf}
 use Rattle.stream.specs.Write.{streamOf, writeCheck, writtenBy, writtenOf, writtenNumber, writtenSize, bytesBy}
 use Rattle.stream.specs.Write.{bytesOf, Wrote}
@@ -25,6 +25,7 @@ use Rattle.stream.specs.declared.Written.{Written}
 use Rattle.promises.specs.Trip.{Copied}
 use Rattle.stream.proofs.Same.{same-stream}
 use Rattle.stream.proofs.Numbers.{read-numbered, write-numbered}
+use Rattle.stream.proofs.Offsets.{read-within}
 
 -- ---- any two outcomes coincide
 
@@ -82,6 +83,11 @@ plan-by (Refused k offset) plan h = refl
 pub read-refused : (s : List ℕ) → (numberOf (readOf s .outcome) ≡ 0 → ⊥) → readOf s .plan ≡ noPlan
 unfolding readOf
 read-refused s h = plan-by (readCheck s) (planOf s) h
+
+-- "the offset of that record's kind byte (.. the stream length ..)": it lies in the stream or at its end
+pub read-offset : (s : List ℕ) → offsetOf (readOf s .outcome) ≤ length s
+unfolding readOf
+read-offset s = read-within s
 
 -- "A refusal outside reading returns its number with all other results 0"
 pub check-offset : (plan : Plan) → offsetOf (planCheck plan) ≡ 0

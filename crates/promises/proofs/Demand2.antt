@@ -11,7 +11,7 @@ use lib.ListN.{length}
 use Rattle.records.specs.First.{numberOf}
 use Rattle.records.specs.declared.Outcome.{Outcome}
 use Rattle.records.specs.declared.Outcome.the-variants.{Fine}
-use Rattle.records.proofs.Numbers.{numbered-fine}
+use Rattle.records.proofs.Refusals.{numbered-fine}
 use Rattle.records.proofs.Words.{Bytes}
 use Rattle.plan.specs.declared.Plan.{Plan}
 use Rattle.plan.specs.Plan.{Same, used}

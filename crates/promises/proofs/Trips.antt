@@ -16,7 +16,7 @@ use Rattle.records.proofs.Checks.{both-fine, need-fine}
 use Rattle.plan.specs.declared.Plan.{Plan}
 use Rattle.plan.specs.Plan.{noPlan}
 use Rattle.plan.specs.Check.{planCheck}
-use Rattle.plan.proofs.Numbers.{plan-unread}
+use Rattle.plan.proofs.Refusals.{plan-unread}
 use Rattle.stream.specs.Read.{readCheck, planOf, planIf, readOf}
 use Rattle.stream.specs.Trip.{Rewritten, Reread}
 use Rattle.stream.specs.Write.{streamOf, writeCheck, writtenBy, writtenOf, bytesBy, bytesOf, Wrote}

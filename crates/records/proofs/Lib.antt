@@ -1,5 +1,5 @@
 pub mod Checks
-pub mod Numbers
+pub mod Refusals
 pub mod Lists
 pub mod Parts
 pub mod Puts

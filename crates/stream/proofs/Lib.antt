@@ -4,4 +4,5 @@ pub mod WrittenBack
 pub mod ReadBack
 pub mod Same
 pub mod Numbers
+pub mod Offsets
 pub mod Answers

@@ -12,10 +12,10 @@ use Rattle.records.specs.Refusal as refusal
 use Rattle.records.specs.First.{pick, need, orElse, firstOf, Numbered}
 use Rattle.records.specs.Record.{overCheck}
 use Rattle.records.specs.declared.Outcome.{Outcome}
-use Rattle.records.proofs.Numbers.{or-each, first-each, need-numbered, range-numbered, record-numbered, over-numbered}
+use Rattle.records.proofs.Refusals.{or-each, first-each, need-numbered, range-numbered, record-numbered, over-numbered}
 use Rattle.plan.specs.declared.Plan.{Plan}
 use Rattle.plan.specs.Check.{frameCheck, countCheck, clientCheck, ownerCheck, planCheck}
-use Rattle.plan.proofs.Numbers.{client-numbered, owner-numbered, plan-numbered}
+use Rattle.plan.proofs.Refusals.{client-numbered, owner-numbered, plan-numbered}
 use Rattle.stream.specs.Kind.{headKind, clientKind, rowKind, endKind, bodyOf, reserved, classOf, rowsOf}
 use Rattle.stream.specs.Read.{fIn, nIn, after, place, dueCheck, headRead, clientAt, numberCheck, clientRead}
 use Rattle.stream.specs.Read.{clientDue}

@@ -1,15 +1,15 @@
--- What holds of every refusal of each check holds of the first that applies: its number is the document's, and outside
--- reading its offset is 0.
+-- What holds of every refusal of each check holds of the first that applies: its number is the document's; its offset
+-- lies in the stream or at its end, and is 0 outside reading.
 -- Assumes nothing.
 use mathlib.Core.Path.{_≡_, refl}
 use mathlib.Core.Bool.{Bool, true, false}
 use mathlib.Core.List.{List}
 use mathlib.Core.Logic.{inl, inr}
-use Prim.Native.Nat.{ℕ, zero, suc, _-_, _≤_}
+use Prim.Native.Nat.{ℕ, zero, suc, _-_, _≤_, _<_}
 use native.Mathlib.Omega.{arith}
 use lib.Dec.{ltb, leb, eqb}
 use lib.ListN.{length}
-use borrow.Author.Tests.{eqb-false}
+use borrow.Author.Tests.{eqb-false, leb-false}
 use Rattle.records.specs.Refusal as refusal
 use Rattle.records.specs.First.{between, need, rangeCheck, orElse, firstOf, numberOf, offsetOf, Numbered}
 use Rattle.records.specs.Record.{recordCheck, overCheck}
@@ -18,14 +18,24 @@ use Rattle.records.specs.declared.Outcome.the-variants.{Fine, Refused}
 
 -- ---- any property of what checks find
 
+-- the second check is reached where the first passes
+pub or-reached : (P : Outcome → Type 0) (x y : Outcome) → P x → (x ≡ Fine → P y) → P (orElse x y)
+or-reached P Fine y p q = q refl
+or-reached P (Refused k offset) y p q = p
+
 pub or-each : (P : Outcome → Type 0) (x y : Outcome) → P x → P y → P (orElse x y)
-or-each P Fine y p q = q
-or-each P (Refused k offset) y p q = p
+or-each P x y p q = or-reached P x y p (λ e. q)
+
+-- check i is reached where all before it pass
+pub first-reached : (P : Outcome → Type 0) → P Fine → (g : ℕ → Outcome) (n : ℕ)
+    → ((i : ℕ) → i < n → firstOf g i ≡ Fine → P (g i)) → P (firstOf g n)
+unfolding firstOf
+first-reached P z g zero h = z
+first-reached P z g (suc n) h =
+    or-reached P (firstOf g n) (g n) (first-reached P z g n (λ i l. h i (omega arith))) (h n (omega arith))
 
 pub first-each : (P : Outcome → Type 0) → P Fine → (g : ℕ → Outcome) → ((i : ℕ) → P (g i)) → (n : ℕ) → P (firstOf g n)
-unfolding firstOf
-first-each P z g h zero = z
-first-each P z g h (suc n) = or-each P (firstOf g n) (g n) (first-each P z g h n) (h n)
+first-each P z g h n = first-reached P z g n (λ i l e. h i)
 
 -- ---- numbers
 
@@ -64,6 +74,30 @@ unfolding overCheck
 over-numbered most s at h = need-numbered most (leb (length s) at) refusal.followed at (omega arith) h
 
 -- ---- offsets
+
+pub need-within : (most : ℕ) (b : Bool) (k offset : ℕ) → offset ≤ most → offsetOf (need b k offset) ≤ most
+need-within most true k offset h = omega arith
+need-within most false k offset h = h
+
+pub record-within : (s : List ℕ) (at class body : ℕ) → at ≤ length s → offsetOf (recordCheck s at class body) ≤ length s
+unfolding recordCheck
+record-within s at class body h =
+    let In : Outcome → Type 0 = λ (o : Outcome). offsetOf o ≤ length s in
+    let begun : Outcome = need (ltb at (length s)) refusal.ended (length s) in
+    let due : Outcome = need (eqb class 0) class at in
+    let whole : Outcome = need (ltb body (length s - at)) refusal.ended at in
+    or-each In begun (orElse due whole) (need-within (length s) (ltb at (length s)) refusal.ended (length s)
+    (omega arith))
+    (or-each In due whole (need-within (length s) (eqb class 0) class at h)
+    (need-within (length s) (ltb body (length s - at)) refusal.ended at h))
+
+over-by : (n at : ℕ) (b : Bool) → leb n at ≡ b → offsetOf (need b refusal.followed at) ≤ n
+over-by n at true e = omega arith
+over-by n at false e = omega (arith, leb-false n at e)
+
+pub over-within : (s : List ℕ) (at : ℕ) → offsetOf (overCheck s at) ≤ length s
+unfolding overCheck
+over-within s at = over-by (length s) at (leb (length s) at) refl
 
 pub need-unread : (b : Bool) (k : ℕ) → offsetOf (need b k 0) ≡ 0
 need-unread true k = refl

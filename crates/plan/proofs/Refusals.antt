@@ -1,4 +1,4 @@
--- A plan's refusals have a number up to 10 and, outside reading, offset 0.
+-- A plan's refusals have a number up to 10, the offset that is handed in and, outside reading, offset 0.
 -- Assumes nothing.
 use mathlib.Core.Path.{_≡_, refl}
 use mathlib.Core.Logic.{inl}
@@ -9,7 +9,8 @@ use Rattle.records.specs.Refusal as refusal
 use Rattle.records.specs.First.{between, need, orElse, firstOf, offsetOf, Numbered}
 use Rattle.records.specs.declared.Outcome.{Outcome}
 use Rattle.records.specs.declared.Outcome.the-variants.{Fine}
-use Rattle.records.proofs.Numbers.{or-each, first-each, need-numbered, range-numbered, need-unread, range-unread}
+use Rattle.records.proofs.Refusals.{or-each, first-each, need-numbered, range-numbered, need-within, need-unread}
+use Rattle.records.proofs.Refusals.{range-unread}
 use Rattle.plan.specs.declared.Client.{Client}
 use Rattle.plan.specs.declared.Plan.{Plan}
 use Rattle.plan.specs.Plan.{clientOf, ownerOf}
@@ -52,6 +53,18 @@ plan-numbered most h =
     (λ owner n. owner-numbered most owner n 0 h)
 
 -- ---- offsets
+
+pub client-within : (most : ℕ) (c : Client) (offset : ℕ) → offset ≤ most → offsetOf (clientCheck c offset) ≤ most
+unfolding clientCheck
+client-within most c offset h =
+    or-each (λ (o : Outcome). offsetOf o ≤ most)
+    (need (between 1 (c .p) (c .q)) refusal.rate offset) (need (leb 1 (c .b)) refusal.latency offset)
+    (need-within most (between 1 (c .p) (c .q)) refusal.rate offset h)
+    (need-within most (leb 1 (c .b)) refusal.latency offset h)
+
+pub owner-within : (most owner n offset : ℕ) → offset ≤ most → offsetOf (ownerCheck owner n offset) ≤ most
+unfolding ownerCheck
+owner-within most owner n offset h = need-within most (leb owner n) refusal.owner offset h
 
 pub plan-unread : (plan : Plan) → offsetOf (planCheck plan) ≡ 0
 unfolding clientCheck ownerCheck

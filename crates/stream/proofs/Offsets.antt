@@ -1,0 +1,116 @@
+-- The offset of a refused read lies in the stream or at its end: a record is reached where all before it passed, so it
+-- begins within the stream.
+-- Assumes nothing.
+use mathlib.Core.Path.{_≡_}
+use mathlib.Core.Bool.{Bool, true, false}
+use mathlib.Core.List.{List}
+use Prim.Native.Nat.{ℕ, zero, suc, _+_, _*_, _≤_}
+use native.Mathlib.Omega.{arith}
+use lib.Dec.{ltb, eqb}
+use lib.ListN.{length, getD}
+use Rattle.records.specs.Refusal as refusal
+use Rattle.records.specs.First.{pick, need, orElse, firstOf, offsetOf}
+use Rattle.records.specs.Record.{overCheck}
+use Rattle.records.specs.declared.Outcome.{Outcome}
+use Rattle.records.specs.declared.Outcome.the-variants.{Fine}
+use Rattle.records.proofs.Refusals.{or-reached, or-each, first-reached, first-each, need-within, record-within}
+use Rattle.records.proofs.Refusals.{over-within}
+use Rattle.records.proofs.Refusals.{range-unread}
+use Rattle.plan.specs.Check.{frameCheck, countCheck, clientCheck, ownerCheck}
+use Rattle.plan.proofs.Refusals.{client-within, owner-within}
+use Rattle.stream.specs.Kind.{headKind, clientKind, rowKind, endKind, bodyOf, classOf, rowsOf}
+use Rattle.stream.specs.Read.{after, place, dueCheck, fIn, nIn, headRead, clientAt, numberCheck, clientRead}
+use Rattle.stream.specs.Read.{clientDue, slotCheck, slotDue, rowRead, rowDue, endRead, toClients, toRows, toEnd}
+use Rattle.stream.specs.Read.{restRead, readCheck}
+use Rattle.stream.proofs.Records.{Whole, after-whole, head-fine, client-at, row-at}
+
+Within : List ℕ → Outcome → Type 0
+Within s o = offsetOf o ≤ length s
+
+-- ---- places
+
+-- the record after a whole one begins within the stream
+after-within : (s : List ℕ) (at kind : ℕ) → Whole s at kind → after s at ≤ length s
+after-within s at kind w = rw (after-whole s at kind (w .found)) (w .room)
+
+client-place : (s : List ℕ) (at i : ℕ) → at ≤ length s → firstOf (clientDue s at) i ≡ Fine → place s at i ≤ length s
+unfolding place
+client-place s at zero l h = l
+client-place s at (suc i) l h =
+    after-within s (place s at i) clientKind (client-at s at (suc i) h i (omega arith) .whole)
+
+row-place : (s : List ℕ) (f n at j : ℕ) → at ≤ length s → firstOf (rowDue s f n at) j ≡ Fine → place s at j ≤ length s
+unfolding place
+row-place s f n at zero l h = l
+row-place s f n at (suc j) l h =
+    after-within s (place s at j) rowKind (row-at s f n at (suc j) h j (omega arith) .whole)
+
+-- ---- records
+
+due-within : (s : List ℕ) (at due : ℕ) → at ≤ length s → Within s (dueCheck s at due)
+unfolding Within dueCheck
+due-within s at due l = record-within s at (classOf due (getD s at 0)) (bodyOf (getD s at 0)) l
+
+head-within : (s : List ℕ) → Within s (headRead s)
+unfolding Within headRead
+head-within s =
+    let frame : Outcome = frameCheck (fIn s) in
+    let count : Outcome = countCheck (nIn s) in
+    let f = range-unread (fIn s) 64 refusal.frame in
+    let n = range-unread (nIn s) 8 refusal.count in
+    or-each (Within s) (dueCheck s 0 headKind) (orElse frame count) (due-within s 0 headKind (omega arith))
+    (or-each (Within s) frame count (omega arith) (omega arith))
+
+client-read-within : (s : List ℕ) (at number : ℕ) → at ≤ length s → Within s (clientRead s at number)
+unfolding Within clientRead numberCheck
+client-read-within s at number l =
+    let next : Outcome = numberCheck (getD s (at + 1) 0) number at in
+    let required : Outcome = clientCheck (clientAt s at) at in
+    or-each (Within s) (dueCheck s at clientKind) (orElse next required) (due-within s at clientKind l)
+    (or-each (Within s) next required
+    (need-within (length s) (eqb (getD s (at + 1) 0) number) refusal.notNext at l)
+    (client-within (length s) (clientAt s at) at l))
+
+slot-by : (s : List ℕ) (b : Bool) (n byte at : ℕ) → at ≤ length s
+    → Within s (pick b (ownerCheck byte n at) (need (eqb byte 255) refusal.pastFrame at))
+unfolding Within
+slot-by s true n byte at l = owner-within (length s) byte n at l
+slot-by s false n byte at l = need-within (length s) (eqb byte 255) refusal.pastFrame at l
+
+row-read-within : (s : List ℕ) (f n at j : ℕ) → at ≤ length s → Within s (rowRead s f n at j)
+unfolding Within rowRead slotDue slotCheck
+row-read-within s f n at j l =
+    or-each (Within s) (dueCheck s at rowKind) (firstOf (slotDue s f n at j) 8) (due-within s at rowKind l)
+    (first-each (Within s) (omega arith) (slotDue s f n at j)
+    (λ t. slot-by s (ltb (8 * j + t) f) n (getD s (at + (1 + t)) 0) at l) 8)
+
+end-within : (s : List ℕ) (at : ℕ) → at ≤ length s → Within s (endRead s at)
+unfolding Within endRead
+end-within s at l =
+    or-each (Within s) (dueCheck s at endKind) (overCheck s (after s at)) (due-within s at endKind l)
+    (over-within s (after s at))
+
+-- ---- the stream
+
+rest-within : (s : List ℕ) (f n : ℕ) → toClients s ≤ length s → Within s (restRead s f n)
+unfolding Within restRead clientDue rowDue
+rest-within s f n l =
+    let clients : Outcome = firstOf (clientDue s (toClients s)) n in
+    let rows : Outcome = firstOf (rowDue s f n (toRows s n)) (rowsOf f) in
+    let end : Outcome = endRead s (toEnd s f n) in
+    or-reached (Within s) clients (orElse rows end)
+    (first-reached (Within s) (omega arith) (clientDue s (toClients s)) n
+    (λ i m h. client-read-within s (place s (toClients s) i) (i + 1) (client-place s (toClients s) i l h)))
+    (λ (h : clients ≡ Fine).
+    let k : toRows s n ≤ length s = client-place s (toClients s) n l h in
+    or-reached (Within s) rows end
+    (first-reached (Within s) (omega arith) (rowDue s f n (toRows s n)) (rowsOf f)
+    (λ j m g. row-read-within s f n (place s (toRows s n) j) j (row-place s f n (toRows s n) j k g)))
+    (λ (g : rows ≡ Fine). end-within s (toEnd s f n) (row-place s f n (toRows s n) (rowsOf f) k g)))
+
+pub read-within : (s : List ℕ) → offsetOf (readCheck s) ≤ length s
+unfolding Within readCheck
+read-within s =
+    or-reached (Within s) (headRead s) (restRead s (fIn s) (nIn s)) (head-within s)
+    (λ (h : headRead s ≡ Fine).
+    rest-within s (fIn s) (nIn s) (after-within s 0 headKind (head-fine s h .whole)))
