@@ -23,7 +23,7 @@ ghost use Rattle.stream.specs.Read.{after, place, dueCheck, headRead, cl
 ghost use Rattle.stream.specs.Read.{clientDue, slotCheck, slotDue, rowRead, rowDue, endRead};
 ghost use Rattle.stream.specs.Read.{restRead, readCheck, clientIn, ownerIn, planOf};
 
-// ---- places
+// ---- places: what is asked of them only keeps sums from wrapping
 
 // The place after the record at a place.
 fn after(s: &[u8], at: usize) -> usize

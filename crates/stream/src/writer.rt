@@ -23,7 +23,7 @@ fn put_head(out: &mut [u8], plan: Plan) -> usize
     put_byte(out, b, plan.n as u8)
 }
 
-// A client's record.
+// A client's record. That its numbers have two bytes, as their type says, is passed on for the round trip.
 fn put_client(out: &mut [u8], at: usize, number: u8, client: Client) -> usize
     requires { ⌜ at + wholeOf clientKind ≤ length (now out) ⌝ }
     ensures { λ r. ⌜ Put (now (out .entry)) at (clientBytes number client) (now (out .exit)) r ⌝ }
