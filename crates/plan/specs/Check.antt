@@ -18,14 +18,14 @@ countCheck n = rangeCheck n 8 refusal.count
 
 -- 8: p is 0, q is 0 or p > q, that is, p is not 1 to q; then 9: b is 0
 unfoldable pub clientCheck : Client → ℕ → Outcome
-clientCheck c offset = orElse (need (between 1 (c .p) (c .q)) refusal.rate offset)
-    (need (leb 1 (c .b)) refusal.latency offset)
+clientCheck c offset =
+    orElse (need (between 1 (c .p) (c .q)) refusal.rate offset) (need (leb 1 (c .b)) refusal.latency offset)
 
 -- 10: an owner exceeds n
 unfoldable pub ownerCheck : ℕ → ℕ → ℕ → Outcome
 ownerCheck owner n offset = need (leb owner n) refusal.owner offset
 
--- client i + 1 of a plan
+-- 8 and 9 of client i + 1 of a plan
 unfoldable pub clientStep : Plan → ℕ → Outcome
 clientStep plan i = clientCheck (clientOf plan i) 0
 
@@ -34,7 +34,7 @@ unfoldable pub requirementsCheck : Plan → Outcome
 requirementsCheck plan =
     orElse (frameCheck (plan .f)) (orElse (countCheck (plan .n)) (firstOf (clientStep plan) (plan .n)))
 
--- slot x of a plan
+-- 10 of slot x of a plan
 unfoldable pub ownerStep : Plan → ℕ → Outcome
 ownerStep plan x = ownerCheck (ownerOf plan x) (plan .n) 0
 

@@ -4,7 +4,7 @@
 use mathlib.Core.Path.{_≡_}
 use mathlib.Core.Bool.{Bool, true, false}
 use mathlib.Core.List.{List}
-use Prim.Native.Nat.{ℕ, zero, suc, _+_, _*_, _≤_}
+use Prim.Native.Nat.{ℕ, zero, suc, _+_, _*_, _≤_, _<_}
 use native.Mathlib.Omega.{arith}
 use lib.Dec.{ltb, eqb}
 use lib.ListN.{length, getD}
@@ -33,17 +33,18 @@ Within s o = offsetOf o ≤ length s
 after-within : (s : List ℕ) (at kind : ℕ) → Whole s at kind → after s at ≤ length s
 after-within s at kind w = rw (after-whole s at kind (w .found)) (w .room)
 
-client-place : (s : List ℕ) (at i : ℕ) → at ≤ length s → firstOf (clientDue s at) i ≡ Fine → place s at i ≤ length s
+-- and so does the one after i whole ones
+place-within : (s : List ℕ) (at kind i : ℕ) → at ≤ length s → ((j : ℕ) → j < i → Whole s (place s at j) kind)
+    → place s at i ≤ length s
 unfolding place
-client-place s at zero l h = l
-client-place s at (suc i) l h =
-    after-within s (place s at i) clientKind (client-at s at (suc i) h i (omega arith) .whole)
+place-within s at kind zero l h = l
+place-within s at kind (suc i) l h = after-within s (place s at i) kind (h i (omega arith))
 
-row-place : (s : List ℕ) (f n at j : ℕ) → at ≤ length s → firstOf (rowDue s f n at) j ≡ Fine → place s at j ≤ length s
-unfolding place
-row-place s f n at zero l h = l
-row-place s f n at (suc j) l h =
-    after-within s (place s at j) rowKind (row-at s f n at (suc j) h j (omega arith) .whole)
+clients-within : (s : List ℕ) (at i : ℕ) → at ≤ length s → firstOf (clientDue s at) i ≡ Fine → place s at i ≤ length s
+clients-within s at i l h = place-within s at clientKind i l (λ j m. client-at s at i h j m .whole)
+
+rows-within : (s : List ℕ) (f n at i : ℕ) → at ≤ length s → firstOf (rowDue s f n at) i ≡ Fine → place s at i ≤ length s
+rows-within s f n at i l h = place-within s at rowKind i l (λ j m. row-at s f n at i h j m .whole)
 
 -- ---- records
 
@@ -100,13 +101,13 @@ rest-within s f n l =
     let end : Outcome = endRead s (toEnd s f n) in
     or-reached (Within s) clients (orElse rows end)
     (first-reached (Within s) (omega arith) (clientDue s (toClients s)) n
-    (λ i m h. client-read-within s (place s (toClients s) i) (i + 1) (client-place s (toClients s) i l h)))
+    (λ i m h. client-read-within s (place s (toClients s) i) (i + 1) (clients-within s (toClients s) i l h)))
     (λ (h : clients ≡ Fine).
-    let k : toRows s n ≤ length s = client-place s (toClients s) n l h in
+    let k : toRows s n ≤ length s = clients-within s (toClients s) n l h in
     or-reached (Within s) rows end
     (first-reached (Within s) (omega arith) (rowDue s f n (toRows s n)) (rowsOf f)
-    (λ j m g. row-read-within s f n (place s (toRows s n) j) j (row-place s f n (toRows s n) j k g)))
-    (λ (g : rows ≡ Fine). end-within s (toEnd s f n) (row-place s f n (toRows s n) (rowsOf f) k g)))
+    (λ j m g. row-read-within s f n (place s (toRows s n) j) j (rows-within s f n (toRows s n) j k g)))
+    (λ (g : rows ≡ Fine). end-within s (toEnd s f n) (rows-within s f n (toRows s n) (rowsOf f) k g)))
 
 pub read-within : (s : List ℕ) → offsetOf (readCheck s) ≤ length s
 unfolding Within readCheck

@@ -11,9 +11,9 @@ use Rattle.plan.specs.Plan.{Same}
 use Rattle.stream.specs.Kind.{rowsOf}
 use Rattle.stream.specs.Write.{clientBytes, clientRecord, slotByte, slotIn, rowRecord, streamOf}
 
-slot-same : (plan other : Plan) → Same plan other → (x : ℕ) → slotByte plan x ≡ slotByte other x
+slot-byte-same : (plan other : Plan) → Same plan other → (x : ℕ) → slotByte plan x ≡ slotByte other x
 unfolding slotByte
-slot-same plan other s x =
+slot-byte-same plan other s x =
     ⊎-elim
     (λ (l : x < plan .f). rw (← s .frame, s .owners x l))
     (λ (l : plan .f ≤ x). rw (← s .frame, le-ltb x (plan .f) l))
@@ -26,5 +26,5 @@ same-stream plan other s =
     (λ i l. ap (clientBytes (i + 1)) (s .clients i l)) in
     let rows =
     many-same (rowRecord plan) (rowRecord other) (rowsOf (plan .f))
-    (λ j l. rw (firsts-same (slotIn plan j) (slotIn other j) 8 (λ t m. slot-same plan other s (8 * j + t)))) in
+    (λ j l. rw (firsts-same (slotIn plan j) (slotIn other j) 8 (λ t m. slot-byte-same plan other s (8 * j + t)))) in
     rw (clients, rows, s .frame, s .count)

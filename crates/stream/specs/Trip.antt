@@ -19,8 +19,8 @@ Rewritten s r = r .outcome ≡ outcome.Fine → streamOf (r .plan) ≡ s
 
 -- a plan that is written: the bytes written are read as that plan, 0 past f and past n
 abbrev pub Reread : Plan → Written → List ℕ → Type 0
-Reread plan r out = (size : ℕ) → r ≡ written.Bytes size → readOf
-    (take size out) ≡ record { outcome = outcome.Fine; plan = used plan }
+Reread plan r out =
+    (size : ℕ) → r ≡ written.Bytes size → readOf (take size out) ≡ record { outcome = outcome.Fine; plan = used plan }
 
 -- what the type of a client's four numbers says
 pub record Words (c : Client) : Type 0 where
