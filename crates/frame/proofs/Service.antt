@@ -1,0 +1,66 @@
+-- What a client's slots give it: demand 3 for one client, and service within the wait, each from any slot of any run.
+-- Assumes nothing.
+use mathlib.Core.List.{List}
+use Prim.Native.Nat.{ℕ, zero, suc, _+_, _*_, _≤_, _<_}
+use native.Mathlib.Nat.{mul-le-mul-left, mul-le-mul-right, mul-pos, le-of-mul-le-mul-left}
+use native.Mathlib.Omega.{arith}
+use lib.ListN.{length, take, drop, getD}
+use lib.Seq.{drop-cons}
+use Rattle.frame.specs.Frame.{within, Frame, Bounded, IsWait}
+use Rattle.frame.specs.Queue.{Rule, left, pending, servedIn}
+use Rattle.frame.specs.Service.{Guaranteed, Waiting}
+use Rattle.frame.proofs.Within.{within-none}
+use Rattle.frame.proofs.Queue.{part-length, served-within, served-first}
+
+-- ---- demand 3
+
+-- a stretch of j slots, w of them owned: enough rate and in time, so at least p/q × (j − a/b)
+guaranteed-by : (f m L p q a b j w : ℕ) → 0 < f → p * f ≤ m * q → L * b ≤ a * m → m * j ≤ L + f * w
+    → Guaranteed p q a b j w
+guaranteed-by f zero L zero q a b j w f> rate late bound = omega arith
+guaranteed-by f zero L (suc p) q a b j w f> rate late bound =
+    let p> : 0 < suc p = omega arith in
+    absurd (omega (arith, mul-pos p> f>))
+guaranteed-by f (suc m) L p q a b j w f> rate late bound =
+    let in-time : suc m * (b * j) ≤ a * suc m + f * (b * w) = omega (arith, late, mul-le-mul-left b bound) in
+    le-of-mul-le-mul-left {k = suc m}
+    (omega (arith, mul-le-mul-left p in-time, mul-le-mul-right (b * w) rate)) (omega arith)
+
+module _ {own : ℕ → ℕ} {f m L : ℕ} (frame : Frame own f m) (bounded : Bounded own f m L) where
+  -- "enough rate when m × q ≥ p × f, and .. in time when L × b ≤ a × m": then every stretch has p/q × (j − a/b) slots
+  pub stretch-guaranteed : (p q a b : ℕ) → p * f ≤ m * q → L * b ≤ a * m → (s j : ℕ)
+      → Guaranteed p q a b j (within own s j)
+  stretch-guaranteed p q a b rate late s j =
+      guaranteed-by f m L p q a b j (within own s j) (frame .f>) rate late (bounded .bound s j)
+
+  -- so many slots that L + k × f ≤ m × j have k of the client's among them
+  pub stretch-enough : (s j k : ℕ) → L + k * f ≤ m * j → k ≤ within own s j
+  stretch-enough s j k h = le-of-mul-le-mul-left {k = f} (omega (arith, h, bounded .bound s j)) (frame .f>)
+
+-- demand 3 for one client: where every stretch has its slots, each run of consecutive slots with a request pending in
+-- each has its service
+pub demand-three : (rule : Rule) (own : ℕ → ℕ) → ((s : ℕ) → own s ≤ 1) → (p q a b : ℕ)
+    → ((s j : ℕ) → Guaranteed p q a b j (within own s j))
+    → (s v : ℕ) (xs : List ℕ) (i j : ℕ) → i + j ≤ length xs → Waiting rule own s v xs i j
+    → Guaranteed p q a b j (servedIn rule own s v xs i j)
+demand-three rule own most p q a b slots s v xs i j fits w =
+    rw (served-within rule own most s v xs i j fits w) (slots (s + i) j)
+
+-- ---- the wait
+
+-- "a request that is k-th in its queue after arrivals", in slot d, "is served within the wait for k, that slot counted
+-- first"
+pub served-in-wait : (rule : Rule) {own : ℕ → ℕ} {f m L : ℕ} → Frame own f m → Bounded own f m L
+    → (s v : ℕ) (xs : List ℕ) (d k w : ℕ) → IsWait f m L k w → 0 < k → k ≤ pending rule own s v xs d → d + w ≤ length xs
+    → k ≤ servedIn rule own s v xs d w
+served-in-wait rule {own} {f} {m} {L} frame bounded s v xs d k w wait k> l fits = by w (wait .enough) fits
+  where
+    by : (w : ℕ) → L + k * f ≤ m * w → d + w ≤ length xs → k ≤ servedIn rule own s v xs d w
+    by zero h fits = absurd (omega (arith, stretch-enough frame bounded s 0 k h, within-none own s))
+    by (suc w) h fits =
+        let rest = part-length rule own xs (suc d) w (omega arith) in
+        let k≤ = stretch-enough frame bounded (s + d) (suc w) k h in
+        let x = getD xs d 0 in
+        let here = left rule own s v (take d xs) in
+        rw (drop-cons xs d 0 (omega arith))
+        (omega (arith, k≤, rw rest at (served-first rule own (s + d) here x k (take w (drop (suc d) xs)) l)))

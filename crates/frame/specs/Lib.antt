@@ -1,0 +1,4 @@
+pub mod Frame
+pub mod Largest
+pub mod Queue
+pub mod Service
