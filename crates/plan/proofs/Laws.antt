@@ -4,7 +4,7 @@
 use mathlib.Core.Path.{_≡_, refl, ap, sym}
 use mathlib.Core.Bool.{Bool, true, false}
 use Prim.Native.Nat.{ℕ, _+_, _%_, _≤_, _<_}
-use native.Mathlib.Nat.{add-mod-right}
+use native.Mathlib.Nat.{add-mod-right, mod-lt}
 use native.Mathlib.Omega.{arith}
 use lib.Dec.{eqb}
 use borrow.Author.Tests.{leb-true, le-leb}
@@ -131,14 +131,21 @@ same-check plan other s =
 
 -- ---- a client's slots
 
-own-by : (b : Bool) → pick b 1 0 ≤ 1
-own-by true = omega arith
-own-by false = omega arith
+pub one-or-none : (b : Bool) → pick b 1 0 ≤ 1
+one-or-none true = omega arith
+one-or-none false = omega arith
 
 pub own-most : (plan : Plan) (c s : ℕ) → ownOf plan c s ≤ 1
 unfolding ownOf
-own-most plan c s = own-by (eqb (ownerOf plan (s % plan .f)) c)
+own-most plan c s = one-or-none (eqb (ownerOf plan (s % plan .f)) c)
 
 pub own-round : (plan : Plan) (c s : ℕ) → ownOf plan c (s + plan .f) ≡ ownOf plan c s
 unfolding ownOf
 own-round plan c s = rw (add-mod-right s (plan .f))
+
+-- a client of plans that are the same has the same slots
+pub own-same : (plan other : Plan) → Same plan other → 0 < plan .f → (c s : ℕ) → ownOf plan c s ≡ ownOf other c s
+unfolding ownOf
+own-same plan other same f> c s =
+    let e : ownerOf plan (s % plan .f) ≡ ownerOf other (s % plan .f) = same .owners (s % plan .f) (mod-lt s f>) in
+    rw (e, same .frame)

@@ -56,9 +56,10 @@ pub fn check_clients(plan: Plan) -> Outcome
     ensures { λ r. ⌜ r ≡ firstOf (clientStep plan) (plan .n) ⌝ }
 {
     let n = plan.n;
+    let clients = plan.clients;
     let mut i = 0;
     while i < n {
-        let client = plan.clients[i];
+        let client = clients[i];
         let outcome = check_client(client, 0);
         if let Outcome::Refused(number, offset) = outcome {
             return Outcome::Refused(number, offset);
@@ -75,9 +76,10 @@ pub fn check_owners(plan: Plan) -> Outcome
 {
     let f = plan.f;
     let n = plan.n;
+    let owners = plan.owners;
     let mut x = 0;
     while x < f {
-        let owner = plan.owners[x];
+        let owner = owners[x];
         let outcome = check_owner(owner, n, 0);
         if let Outcome::Refused(number, offset) = outcome {
             return Outcome::Refused(number, offset);

@@ -4,18 +4,20 @@ use mathlib.Core.Path.{_≡_, sym}
 use Prim.Native.Nat.{_-_, _≤_}
 use native.Mathlib.Omega.{arith}
 use borrow.Author.Needs.{needs}
+use lib.ListN.{getD}
 use Rattle.records.specs.First.{firstOf}
 use Rattle.records.specs.declared.Outcome.the-variants.{Fine}
 use Rattle.records.proofs.Checks.{first-more, first-stop}
-use Rattle.plan.specs.Check.{clientStep}
+use Rattle.plan.specs.Plan.{noClient}
+use Rattle.plan.specs.Check.{clientCheck, clientStep}
 use Rattle.plan.proofs.inner.check_clients.Statement.{statement}
 use Rattle.plan.proofs.inner.check_clients.Tie as tie
 
 abbrev Inv-loop : tie.InvT-loop
-Inv-loop plan n i₀ i = (i ≤ n) × (firstOf (clientStep plan) i ≡ Fine)
+Inv-loop n clients i₀ i = (i ≤ n) × (firstOf (λ j. clientCheck (getD clients j noClient) 0) i ≡ Fine)
 
 abbrev μ-loop : tie.MeasureT-loop
-μ-loop plan n i₀ i = n - i
+μ-loop n clients i₀ i = n - i
 
 loop-holds : tie.Need-loop-holds Inv-loop μ-loop
 unfolding firstOf
@@ -24,8 +26,8 @@ loop-holds c = search needs
 mul-client : tie.Need-mul-client Inv-loop μ-loop
 mul-client c = search needs
 
-element-copy-out-client : tie.Need-element-copy-out-client Inv-loop μ-loop
-element-copy-out-client c = search needs
+array-copy-out-client : tie.Need-array-copy-out-client Inv-loop μ-loop
+array-copy-out-client c = search needs
 
 check-client-requires : tie.Need-check-client-requires Inv-loop μ-loop
 check-client-requires c κs = search needs
@@ -36,10 +38,10 @@ enum-known-outcome c = search needs
 returns : tie.Need-returns Inv-loop μ-loop
 unfolding clientStep
 returns c =
-    let args = c .before .before .before .before .before .before .before .args in
+    let args = c .before .before .before .before .before .before .before .before .args in
     let check-client = c .before .before .before .check-client in
     let l = c .before .before .before .before .before .before .loop in
-    let plan = args .t1 in
+    let plan = args .plan in
     first-stop (clientStep plan) (plan .n) (l .i) (omega arith) (l .inv .1) (check-client .ensures)
     (c .before .outcome .given .1)
 
@@ -55,16 +57,17 @@ loop-less c = search needs
 loop-again : tie.Need-loop-again Inv-loop μ-loop
 unfolding clientStep
 loop-again c =
-    let args = c .before .before .before .before .before .before .args in
+    let args = c .before .before .before .before .before .before .before .args in
     let check-client = c .before .before .check-client in
     let l = c .before .before .before .before .before .loop in
-    let plan = args .t1 in
+    let plan = args .plan in
     (omega arith, first-more (clientStep plan) (l .i) (l .inv .1) (check-client .ensures) (c .enum-told .given .1))
 
 returns-2 : tie.Need-returns-2 Inv-loop μ-loop
+unfolding clientStep
 returns-2 c =
-    let args = c .before .before .args in
-    let e : c .before .loop .i ≡ args .t1 .n = omega arith in sym (rw e at (c .before .loop .inv .1))
+    let args = c .before .before .before .args in
+    let e : c .before .loop .i ≡ args .plan .n = omega arith in sym (rw e at (c .before .loop .inv .1))
 
 pub check-clients-spec : {M : Type 1} → statement M
 check-clients-spec =
@@ -74,7 +77,7 @@ check-clients-spec =
     μ-loop
     loop-holds
     mul-client
-    element-copy-out-client
+    array-copy-out-client
     check-client-requires
     enum-known-outcome
     returns

@@ -4,25 +4,26 @@ use mathlib.Core.Path.{_≡_, sym}
 use Prim.Native.Nat.{_-_, _≤_}
 use native.Mathlib.Omega.{arith}
 use borrow.Author.Needs.{needs}
+use lib.ListN.{getD}
 use Rattle.records.specs.First.{firstOf}
 use Rattle.records.specs.declared.Outcome.the-variants.{Fine}
 use Rattle.records.proofs.Checks.{first-more, first-stop}
-use Rattle.plan.specs.Check.{ownerStep, ownersCheck}
+use Rattle.plan.specs.Check.{ownerCheck, ownerStep, ownersCheck}
 use Rattle.plan.proofs.inner.check_owners.Statement.{statement}
 use Rattle.plan.proofs.inner.check_owners.Tie as tie
 
 abbrev Inv-loop : tie.InvT-loop
-Inv-loop plan f n x₀ x = (x ≤ f) × (firstOf (ownerStep plan) x ≡ Fine)
+Inv-loop f n owners x₀ x = (x ≤ f) × (firstOf (λ y. ownerCheck (getD owners y 0) n 0) x ≡ Fine)
 
 abbrev μ-loop : tie.MeasureT-loop
-μ-loop plan f n x₀ x = f - x
+μ-loop f n owners x₀ x = f - x
 
 loop-holds : tie.Need-loop-holds Inv-loop μ-loop
 unfolding firstOf
 loop-holds c = search needs
 
-element-copy-out-owner : tie.Need-element-copy-out-owner Inv-loop μ-loop
-element-copy-out-owner c = search needs
+array-read-owner : tie.Need-array-read-owner Inv-loop μ-loop
+array-read-owner c = search needs
 
 check-owner-requires : tie.Need-check-owner-requires Inv-loop μ-loop
 check-owner-requires c κs = search needs
@@ -35,8 +36,8 @@ unfolding ownerStep ownersCheck
 returns c =
     let args = c .before .before .before .before .before .before .before .args in
     let check-owner = c .before .before .before .check-owner in
-    let l = c .before .before .before .before .before .before .loop in
-    let plan = args .t1 in
+    let l = c .before .before .before .before .before .loop in
+    let plan = args .plan in
     first-stop (ownerStep plan) (plan .f) (l .x) (omega arith) (l .inv .1) (check-owner .ensures)
     (c .before .outcome .given .1)
 
@@ -54,15 +55,15 @@ unfolding ownerStep
 loop-again c =
     let args = c .before .before .before .before .before .before .args in
     let check-owner = c .before .before .check-owner in
-    let l = c .before .before .before .before .before .loop in
-    let plan = args .t1 in
+    let l = c .before .before .before .before .loop in
+    let plan = args .plan in
     (omega arith, first-more (ownerStep plan) (l .x) (l .inv .1) (check-owner .ensures) (c .enum-told .given .1))
 
 returns-2 : tie.Need-returns-2 Inv-loop μ-loop
-unfolding ownersCheck
+unfolding ownersCheck ownerStep
 returns-2 c =
-    let args = c .before .before .args in
-    let e : c .before .loop .x ≡ args .t1 .f = omega arith in sym (rw e at (c .before .loop .inv .1))
+    let args = c .before .before .before .args in
+    let e : c .before .loop .x ≡ args .plan .f = omega arith in sym (rw e at (c .before .loop .inv .1))
 
 pub check-owners-spec : {M : Type 1} → statement M
 check-owners-spec =
@@ -71,7 +72,7 @@ check-owners-spec =
     Inv-loop
     μ-loop
     loop-holds
-    element-copy-out-owner
+    array-read-owner
     check-owner-requires
     enum-known-outcome
     returns
