@@ -1,0 +1,5 @@
+pub mod Laws
+pub mod Questions
+pub mod Answers
+pub mod Once
+pub mod Same

@@ -1,0 +1,59 @@
+-- Plans that are the same get the same answers: places past f and past n are not read.
+-- Assumes nothing.
+use mathlib.Core.Path.{_≡_, refl, ap, _∙_, fun-ext}
+use Prim.Native.Nat.{ℕ, _<_}
+use Rattle.records.specs.First.{orElse, numberOf}
+use Rattle.records.specs.declared.Outcome.{Outcome}
+use Rattle.records.specs.declared.Outcome.the-variants.{Fine, Refused}
+use Rattle.records.proofs.Checks.{both-fine}
+use Rattle.plan.specs.declared.Plan.{Plan}
+use Rattle.plan.specs.Plan.{ownOf, Same}
+use Rattle.plan.specs.Check.{planCheck}
+use Rattle.plan.proofs.Laws.{plan-fine, same-check, own-same}
+use Rattle.figures.specs.declared.Figures.{Figures}
+use Rattle.figures.specs.declared.Wait.{Wait}
+use Rattle.figures.specs.Check.{figureCheck, waitCheck}
+use Rattle.figures.specs.Figures.{IsFigure, figureOf, IsFigures, Waits, waitSlots, IsWaitFor}
+use Rattle.figures.proofs.Questions.{figure-fine}
+
+or-same : (x x′ y y′ : Outcome) → x ≡ x′ → (x ≡ Fine → y ≡ y′) → orElse x y ≡ orElse x′ y′
+or-same Fine x′ y y′ e h = rw (← e) (h refl)
+or-same (Refused k offset) x′ y y′ e h = rw (← e)
+
+module _ (plan other : Plan) (same : Same plan other) (c : ℕ) where
+  slots-same : 0 < plan .f → ownOf plan c ≡ ownOf other c
+  slots-same f> = fun-ext (own-same plan other same f> c)
+
+  pub figure-check-same : figureCheck plan c ≡ figureCheck other c
+  unfolding figureCheck
+  figure-check-same =
+      or-same (planCheck plan) (planCheck other) _ _ (same-check plan other same) (λ h.
+      rw (slots-same (plan-fine plan h .bounds .f-low), same .frame, same .count))
+
+  pub wait-check-same : (n : ℕ) → waitCheck plan c n ≡ waitCheck other c n
+  unfolding waitCheck
+  wait-check-same n = rw figure-check-same
+
+  -- what holds of the client's slots in one plan holds in the other
+  carried : (P : (ℕ → ℕ) → ℕ → Type 0) → figureCheck other c ≡ Fine
+      → (figureCheck plan c ≡ Fine → P (ownOf plan c) (plan .f)) → P (ownOf other c) (other .f)
+  carried P h holds =
+      let fine : figureCheck plan c ≡ Fine = figure-check-same ∙ h in
+      let own = slots-same (figure-fine plan c fine .checked .bounds .f-low) in
+      rw (own, same .frame) at (holds fine)
+
+  pub figures-same : (r : Figures) → IsFigures plan c r → IsFigures other c r
+  figures-same r is =
+      record {
+        number = is .number ∙ ap numberOf figure-check-same;
+        figure = λ h. carried (λ own f. IsFigure own f (figureOf r)) h (is .figure);
+      }
+
+  pub wait-same : (n : ℕ) (r : Wait) → IsWaitFor plan c n r → IsWaitFor other c n r
+  unfolding waitCheck
+  wait-same n r is =
+      record {
+        number = is .number ∙ ap numberOf (wait-check-same n);
+        wait = λ h.
+            carried (λ own f. Waits own f n (waitSlots r)) (both-fine _ _ h .0) (λ e. is .wait (wait-check-same n ∙ h));
+      }

@@ -1,0 +1,122 @@
+-- `figures::inner::lack_from` meets its contract: after j lengths the loop has the most that one of them lacks, the
+-- client's slots in a stretch of j, and the place in the frame where it ends.
+-- Assumes nothing.
+use mathlib.Core.Path.{_≡_, refl, sym, _∙_}
+use Prim.Native.Nat.{ℕ, _+_, _-_, _%_, _≤_, _<_}
+use native.Mathlib.Nat.{mod-eq-of-lt, mod-lt, add-zero}
+use native.Mathlib.Omega.{arith}
+use borrow.Author.Needs.{needs}
+use lib.Dec.{eqb}
+use lib.ListN.{getD}
+use Rattle.frame.specs.Frame.{within}
+use Rattle.frame.specs.Largest.{largest, lack}
+use Rattle.frame.proofs.Scaled.{largest-on}
+use Rattle.plan.proofs.Laws.{one-or-none}
+use Rattle.figures.proofs.Laws.{ownIn, own-in, count-small, place-on, count-on, lack-at}
+use Rattle.figures.proofs.inner.lack_from.Statement.{statement}
+use Rattle.figures.proofs.inner.lack_from.Tie as tie
+
+abbrev Inv-loop : tie.InvT-loop
+Inv-loop client m s f owners most₀ w₀ at₀ j₀ most w at j =
+    (j ≤ f)
+    × (most ≡ largest j (lack (ownIn owners f client) f m s))
+    × (w ≡ within (ownIn owners f client) s j)
+    × (at ≡ (s + j) % f)
+
+abbrev μ-loop : tie.MeasureT-loop
+μ-loop client m s f owners most₀ w₀ at₀ j₀ most w at j = f - j
+
+-- the place is one of the frame
+in-frame : (f s j at : ℕ) → s < f → at ≡ (s + j) % f → at < f
+in-frame f s j at l e = let f> : 0 < f = omega arith in omega (arith, mod-lt (s + j) f>)
+
+loop-holds : tie.Need-loop-holds Inv-loop μ-loop
+unfolding largest within
+loop-holds c =
+    let args = c .before .args in
+    let e : (args .s + 0) % args .plan .f ≡ args .s = rw add-zero (mod-eq-of-lt (omega arith)) in
+    (omega arith, refl, refl, sym e)
+
+lack-of-requires : tie.Need-lack-of-requires Inv-loop μ-loop
+lack-of-requires c κs =
+    let args = c .before .before .before .args in
+    let plan = args .plan in
+    let loop = c .before .loop in
+    let counted = count-small (plan .owners) (plan .f) (args .client) (args .s) (loop .j) (omega arith) in
+    (omega arith, omega arith, omega arith, omega arith)
+
+larger-requires : tie.Need-larger-requires Inv-loop μ-loop
+larger-requires c κs = search needs
+
+array-read-owner : tie.Need-array-read-owner Inv-loop μ-loop
+array-read-owner c =
+    let args = c .before .before .before .before .before .args in
+    let loop = c .before .before .before .loop in
+    omega (arith, in-frame (args .plan .f) (args .s) (loop .j) (loop .at) (omega arith) (loop .inv .3))
+
+owned-by-requires : tie.Need-owned-by-requires Inv-loop μ-loop
+owned-by-requires c κs = search needs
+
+add-w : tie.Need-add-w Inv-loop μ-loop
+add-w c =
+    let args = c .before .before .before .before .before .before .args in
+    let plan = args .plan in
+    let loop = c .before .before .before .before .loop in
+    let counted = count-small (plan .owners) (plan .f) (args .client) (args .s) (loop .j) (omega arith) in
+    let most = one-or-none (eqb (getD (plan .owners) (loop .at) 0) (args .client)) in
+    omega (arith, c .owned-by .ensures)
+
+next-requires : tie.Need-next-requires Inv-loop μ-loop
+next-requires c κs =
+    let args = c .before .before .before .before .before .before .args in
+    let loop = c .before .before .before .before .loop in
+    in-frame (args .plan .f) (args .s) (loop .j) (loop .at) (omega arith) (loop .inv .3)
+
+add-j : tie.Need-add-j Inv-loop μ-loop
+add-j c = search needs
+
+loop-less : tie.Need-loop-less Inv-loop μ-loop
+loop-less c = search needs
+
+loop-again : tie.Need-loop-again Inv-loop μ-loop
+loop-again c =
+    let args = c .before .before .before .before .before .before .before .args in
+    let owners = args .plan .owners in
+    let f = args .plan .f in
+    let s = args .s in
+    let loop = c .before .before .before .before .before .loop in
+    let j = loop .j in
+    let own = ownIn owners f (args .client) in
+    let lacks = c .before .before .before .lack-of .ensures in
+    let here = lack-at own f (args .m) s j (loop .w) _ (loop .inv .2) lacks in
+    let owned = c .before .owned-by .ensures in (
+      omega arith,
+      largest-on (lack own f (args .m) s) j (loop .most) _ _ (loop .inv .1) here (c .before .before .larger .ensures),
+      count-on owners f (args .client) s j (loop .w) (loop .at) _ (loop .inv .2) (loop .inv .3) owned,
+      c .next .ensures ∙ place-on f s j (loop .at) (loop .inv .3),
+    )
+
+returns : tie.Need-returns Inv-loop μ-loop
+returns c =
+    let args = c .before .before .before .args in
+    let loop = c .before .loop in
+    let e : loop .j ≡ args .plan .f = omega arith in
+    rw (e, own-in (args .plan) (args .client)) at (loop .inv .1)
+
+pub lack-from-spec : {M : Type 1} → statement M
+lack-from-spec =
+    tie.close
+    (tie.spec
+    Inv-loop
+    μ-loop
+    loop-holds
+    lack-of-requires
+    larger-requires
+    array-read-owner
+    owned-by-requires
+    add-w
+    next-requires
+    add-j
+    loop-less
+    loop-again
+    returns)

@@ -1,0 +1,25 @@
+-- `figures::inner::lack_of` meets its contract: the branch's test says whether the difference is negative.
+-- Assumes nothing.
+use native.Mathlib.Omega.{arith}
+use borrow.Author.Needs.{needs}
+use Rattle.figures.proofs.Laws.{product-small}
+use Rattle.figures.proofs.inner.lack_of.Statement.{statement}
+use Rattle.figures.proofs.inner.lack_of.Tie as tie
+
+mul-due : tie.Need-mul-due
+mul-due c = let args = c .args in omega (arith, product-small (args .m) (args .j) (omega arith) (omega arith))
+
+mul-got : tie.Need-mul-got
+mul-got c = let args = c .args in omega (arith, product-small (args .f) (args .w) (omega arith) (omega arith))
+
+sub-result : tie.Need-sub-result
+sub-result c = search needs
+
+returns : tie.Need-returns
+returns c = search needs
+
+returns-2 : tie.Need-returns-2
+returns-2 c = search needs
+
+pub lack-of-spec : {M : Type 1} → statement M
+lack-of-spec = tie.close (tie.spec mul-due mul-got sub-result returns returns-2)

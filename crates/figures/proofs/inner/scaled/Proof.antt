@@ -1,0 +1,61 @@
+-- `figures::inner::scaled` meets its contract: the loop has the most that a stretch from one of the first s starts
+-- lacks, and starts and lengths below f suffice.
+-- Assumes nothing.
+use mathlib.Core.Path.{_≡_, refl}
+use Prim.Native.Nat.{ℕ, _-_, _≤_}
+use native.Mathlib.Omega.{arith}
+use borrow.Author.Needs.{needs}
+use Rattle.frame.specs.Largest.{largest, lack}
+use Rattle.frame.proofs.Scaled.{largest-on}
+use Rattle.plan.specs.Plan.{ownOf}
+use Rattle.figures.proofs.Laws.{slots-small, scaled-all}
+use Rattle.figures.proofs.inner.scaled.Statement.{statement}
+use Rattle.figures.proofs.inner.scaled.Tie as tie
+
+abbrev Inv-loop : tie.InvT-loop
+Inv-loop plan client m f most₀ s₀ most s =
+    (s ≤ f) × (most ≡ largest s (λ t. largest f (lack (ownOf plan client) f m t)))
+
+abbrev μ-loop : tie.MeasureT-loop
+μ-loop plan client m f most₀ s₀ most s = f - s
+
+loop-holds : tie.Need-loop-holds Inv-loop μ-loop
+unfolding largest
+loop-holds c = (omega arith, refl)
+
+lack-from-requires : tie.Need-lack-from-requires Inv-loop μ-loop
+lack-from-requires c κs =
+    let args = c .before .before .args in
+    let m = slots-small (args .plan) (args .client) (omega arith) in
+    (omega arith, omega arith, omega arith)
+
+larger-requires : tie.Need-larger-requires Inv-loop μ-loop
+larger-requires c κs = search needs
+
+add-s : tie.Need-add-s Inv-loop μ-loop
+add-s c = search needs
+
+loop-less : tie.Need-loop-less Inv-loop μ-loop
+loop-less c = search needs
+
+loop-again : tie.Need-loop-again Inv-loop μ-loop
+loop-again c =
+    let args = c .before .before .before .before .args in
+    let loop = c .before .before .before .loop in
+    let f = args .plan .f in
+    let from : ℕ → ℕ = λ s. largest f (lack (ownOf (args .plan) (args .client)) f (args .m) s) in (
+      omega arith,
+      largest-on from (loop .s) (loop .most) _ _ (loop .inv .1) (c .before .lack-from .ensures) (c .larger .ensures),
+    )
+
+returns : tie.Need-returns Inv-loop μ-loop
+returns c =
+    let args = c .before .before .args in
+    let loop = c .before .loop in
+    let e : loop .s ≡ args .plan .f = omega arith in
+    scaled-all (args .plan) (args .client) (args .m) (loop .most) (omega arith) (search needs) (rw e at (loop .inv .1))
+
+pub scaled-spec : {M : Type 1} → statement M
+scaled-spec =
+    tie.close
+    (tie.spec Inv-loop μ-loop loop-holds lack-from-requires larger-requires add-s loop-less loop-again returns)

@@ -1,0 +1,44 @@
+-- `figures::inner::wait_of` meets its contract: it is the wait as `frame` works it out.
+-- Assumes nothing.
+use Prim.Native.Nat.{ℕ, _*_, _≤_}
+use native.Mathlib.Nat.{mul-le-mul}
+use native.Mathlib.Omega.{arith}
+use borrow.Author.Needs.{needs}
+use Rattle.frame.specs.Largest.{waitOf}
+use Rattle.frame.proofs.Scaled.{wait-is}
+use Rattle.figures.proofs.inner.wait_of.Statement.{statement}
+use Rattle.figures.proofs.inner.wait_of.Tie as tie
+
+product : (k f : ℕ) → k ≤ 255 → f ≤ 64 → k * f ≤ 16320
+product k f l h = mul-le-mul l h
+
+mul-due : tie.Need-mul-due
+mul-due c =
+    let args = c .args in
+    omega (arith, product (args .waiting) (args .f) (omega arith) (omega arith))
+
+add-due : tie.Need-add-due
+add-due c =
+    let args = c .before .args in
+    omega (arith, product (args .waiting) (args .f) (omega arith) (omega arith))
+
+sub-result : tie.Need-sub-result
+sub-result c = search needs
+
+add-result : tie.Need-add-result
+add-result c =
+    let args = c .before .args in
+    omega (arith, product (args .waiting) (args .f) (omega arith) (omega arith))
+
+div-result : tie.Need-div-result
+div-result c = search needs
+
+returns : tie.Need-returns
+unfolding waitOf
+returns c =
+    let args = c .before .args in
+    let figure = args .figure in
+    wait-is (args .f) (figure .slots) (figure .scaled) (args .waiting) (omega arith)
+
+pub wait-of-spec : {M : Type 1} → statement M
+wait-of-spec = tie.close (tie.spec mul-due add-due sub-result add-result div-result returns)

@@ -1,0 +1,85 @@
+-- `figures::wait_for` meets its contract: a refused figure is a refused wait; where the figure is given, 15 decides, or
+-- the wait is that of the figure.
+-- Assumes nothing.
+use mathlib.Core.Path.{sym, _∙_}
+use borrow.Author.Needs.{needs}
+use Rattle.records.specs.Refusal as refusal
+use Rattle.records.proofs.Checks.{range-fine}
+use Rattle.figures.proofs.Questions.{figure-fine}
+use Rattle.figures.proofs.Answers.{given-fine, given-small, wait-refused, wait-given, wait-stopped}
+use Rattle.figures.proofs.wait_for.Statement.{statement}
+use Rattle.figures.proofs.wait_for.Tie as tie
+
+figure-of-requires : tie.Need-figure-of-requires
+figure-of-requires c κs = search needs
+
+enum-known-figures : tie.Need-enum-known-figures
+enum-known-figures c = search needs
+
+enum-known-figures-2 : tie.Need-enum-known-figures-2
+enum-known-figures-2 c = search needs
+
+check-range-requires : tie.Need-check-range-requires
+check-range-requires c κs = search needs
+
+enum-known-asked : tie.Need-enum-known-asked
+enum-known-asked c = search needs
+
+returns : tie.Need-returns
+returns c =
+    let range = c .before .before .before .check-range in
+    let given = c .before .before .before .before .before .figures2 in
+    let figures = c .before .before .before .before .before .before .before .figure-of in
+    let args = c .before .before .before .before .before .before .before .before .args in
+    let is = rw (given .given .1) at (figures .ensures) in
+    let fine = given-fine (args .plan) (args .client) _ is in
+    let refused = sym (c .before .asked .given .1) ∙ range .ensures in
+    wait-refused (args .plan) (args .client) (args .waiting) _ _ fine refused
+
+enum-told : tie.Need-enum-told
+enum-told c = search needs
+
+wait-of-requires : tie.Need-wait-of-requires
+wait-of-requires c κs =
+    let range = c .before .before .check-range in
+    let given = c .before .before .before .before .figures2 in
+    let figures = c .before .before .before .before .before .before .figure-of in
+    let args = c .before .before .before .before .before .before .before .args in
+    let is = rw (given .given .1) at (figures .ensures) in
+    let fine = given-fine (args .plan) (args .client) _ is in
+    let asked = figure-fine (args .plan) (args .client) fine in
+    let small = given-small (args .plan) (args .client) _ asked (is .figure fine) in
+    let k = range-fine (args .waiting) 255 refusal.waiting (sym (range .ensures) ∙ c .enum-told .given .1) in
+    ((asked .checked .bounds .f-high, small .0, small .1), (small .2, k .1))
+
+returns-2 : tie.Need-returns-2
+returns-2 c =
+    let figures = c .before .before .before .figure-of in
+    let args = c .before .before .before .before .args in
+    wait-stopped (args .plan) (args .client) (args .waiting) _ (rw (c .before .figures .given .1) at (figures .ensures))
+
+returns-3 : tie.Need-returns-3
+returns-3 c =
+    let range = c .before .before .before .check-range in
+    let given = c .before .before .before .before .before .figures2 in
+    let figures = c .before .before .before .before .before .before .before .figure-of in
+    let args = c .before .before .before .before .before .before .before .before .args in
+    let is = rw (given .given .1) at (figures .ensures) in
+    let fine = given-fine (args .plan) (args .client) _ is in
+    let k = sym (range .ensures) ∙ c .before .enum-told .given .1 in
+    wait-given (args .plan) (args .client) (args .waiting) _ _ fine k (is .figure fine) (c .wait-of .ensures)
+
+pub wait-for-spec : {M : Type 1} → statement M
+wait-for-spec =
+    tie.close
+    (tie.spec
+    figure-of-requires
+    enum-known-figures
+    enum-known-figures-2
+    check-range-requires
+    enum-known-asked
+    returns
+    enum-told
+    wait-of-requires
+    returns-2
+    returns-3)

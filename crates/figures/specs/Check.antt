@@ -1,0 +1,27 @@
+-- What a question about a client is refused for: "figures 13, 14; waits 13, 14, 15", after the plan's own checks
+-- (document 01, Refusal numbers).
+use Prim.Native.Nat.{ℕ}
+use lib.Dec.{leb}
+use Rattle.frame.specs.Frame.{slotsOf}
+use Rattle.records.specs.Refusal as refusal
+use Rattle.records.specs.First.{need, rangeCheck, orElse}
+use Rattle.records.specs.declared.Outcome.{Outcome}
+use Rattle.plan.specs.declared.Plan.{Plan}
+use Rattle.plan.specs.Plan.{ownOf}
+use Rattle.plan.specs.Check.{planCheck}
+
+-- 13: the client asked about is not 1 to n
+abbrev pub askedCheck : Plan → ℕ → Outcome
+askedCheck plan c = rangeCheck c (plan .n) refusal.asked
+
+-- 14: that client owns no slot
+abbrev pub ownsCheck : Plan → ℕ → Outcome
+ownsCheck plan c = need (leb 1 (slotsOf (ownOf plan c) (plan .f))) refusal.noSlot 0
+
+-- figures: the plan's checks, 13, 14
+unfoldable pub figureCheck : Plan → ℕ → Outcome
+figureCheck plan c = orElse (planCheck plan) (orElse (askedCheck plan c) (ownsCheck plan c))
+
+-- waits: the plan's checks, 13, 14, then 15: the waiting number is not 1 to 255
+unfoldable pub waitCheck : Plan → ℕ → ℕ → Outcome
+waitCheck plan c k = orElse (figureCheck plan c) (rangeCheck k 255 refusal.waiting)

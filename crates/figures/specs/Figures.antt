@@ -1,0 +1,59 @@
+-- A client's figures (document 01, Figures), and what the answers' cases mean: the document's number, and the values.
+use mathlib.Core.Path.{_≡_}
+use Prim.Native.Nat.{ℕ}
+use Rattle.frame.specs.Frame.{slotsOf, IsScaled, IsWait}
+use Rattle.records.specs.First.{numberOf}
+use Rattle.records.specs.declared.Outcome.the-variants.{Fine}
+use Rattle.plan.specs.declared.Plan.{Plan}
+use Rattle.plan.specs.Plan.{ownOf}
+use Rattle.figures.specs.declared.Figure.{Figure}
+use Rattle.figures.specs.declared.Figures.{Figures}
+use Rattle.figures.specs.declared.Figures.the-variants as figures
+use Rattle.figures.specs.declared.Wait.{Wait}
+use Rattle.figures.specs.declared.Wait.the-variants as wait
+use Rattle.figures.specs.Check.{figureCheck, waitCheck}
+
+-- ---- figures
+
+-- m and L of a client: "its slots in the frame", "the largest m × j − f × w(s, j) over all s and all j ≥ 0"
+pub record IsFigure (own : ℕ → ℕ) (f : ℕ) (figure : Figure) : Type 0 where
+  pub slots : figure .slots ≡ slotsOf own f
+  pub scaled : IsScaled own f (slotsOf own f) (figure .scaled)
+
+-- an answer's number, 0 where nothing is refused
+abbrev pub figuresNumber : Figures → ℕ
+figuresNumber (figures.Given figure) = 0
+figuresNumber (figures.Refused k) = k
+
+-- an answer's values: "A refusal .. returns its number with all other results 0"
+abbrev pub figureOf : Figures → Figure
+figureOf (figures.Given figure) = figure
+figureOf (figures.Refused k) = record { slots = 0; scaled = 0 }
+
+-- what an answer about client c is
+pub record IsFigures (plan : Plan) (c : ℕ) (r : Figures) : Type 0 where
+  pub number : figuresNumber r ≡ numberOf (figureCheck plan c)
+  pub figure : figureCheck plan c ≡ Fine → IsFigure (ownOf plan c) (plan .f) (figureOf r)
+
+-- ---- waits
+
+-- a client's wait for k: "(L + k × f)/m rounded up", with its m and L
+pub record Waits (own : ℕ → ℕ) (f k w : ℕ) : Type 0 where
+  pub L : ℕ
+  pub scaled : IsScaled own f (slotsOf own f) L
+  pub wait : IsWait f (slotsOf own f) L k w
+
+-- an answer's number, 0 where nothing is refused
+abbrev pub waitNumber : Wait → ℕ
+waitNumber (wait.Slots w) = 0
+waitNumber (wait.Refused k) = k
+
+-- an answer's value, 0 in a refusal
+abbrev pub waitSlots : Wait → ℕ
+waitSlots (wait.Slots w) = w
+waitSlots (wait.Refused k) = 0
+
+-- what an answer about client c and k waiting requests is
+pub record IsWaitFor (plan : Plan) (c k : ℕ) (r : Wait) : Type 0 where
+  pub number : waitNumber r ≡ numberOf (waitCheck plan c k)
+  pub wait : waitCheck plan c k ≡ Fine → Waits (ownOf plan c) (plan .f) k (waitSlots r)

@@ -1,0 +1,114 @@
+// The figures of a plan that is checked: f is 1 to 64.
+use super::Figure;
+use frame::inner::next;
+use plan::Plan;
+use records::wide;
+ghost use mathlib.Core.Path.{_≡_};
+ghost use Prim.Native.Nat.{_-_, _*_, _≤_, _<_, max};
+ghost use lib.Dec.{eqb};
+ghost use Rattle.frame.specs.Frame.{slotsOf, IsScaled, IsWait};
+ghost use Rattle.frame.specs.Largest.{largest, lack};
+ghost use Rattle.records.specs.First.{pick};
+ghost use Rattle.plan.specs.Plan.{ownOf};
+ghost use Rattle.figures.specs.Figures.{IsFigure};
+
+// 1 where a slot's owner is the client, else 0.
+pub fn owned_by(owner: u8, client: usize) -> usize
+    ensures { λ r. ⌜ r ≡ pick (eqb owner client) 1 0 ⌝ }
+{
+    if wide(owner) == client { 1 } else { 0 }
+}
+
+// m, the client's slots in the frame.
+pub fn slots(plan: Plan, client: usize) -> usize
+    requires { ⌜ plan .f ≤ 64 ⌝ }
+    ensures { λ r. ⌜ r ≡ slotsOf (ownOf plan client) (plan .f) ⌝ }
+{
+    let f = plan.f;
+    let owners = plan.owners;
+    let mut m = 0;
+    let mut at = 0;
+    while at < f {
+        let owner = owners[at];
+        m += owned_by(owner, client);
+        at += 1;
+    }
+    m
+}
+
+// The larger of two numbers.
+pub fn larger(a: usize, b: usize) -> usize
+    ensures { λ r. ⌜ r ≡ max a b ⌝ }
+{
+    if a < b { b } else { a }
+}
+
+// What a stretch of j slots, w of them the client's, lacks: m × j − f × w, or 0.
+pub fn lack_of(f: usize, m: usize, j: usize, w: usize) -> usize
+    requires { ⌜ (f ≤ 64) × (m ≤ 64) × (j ≤ 64) × (w ≤ 64) ⌝ }
+    ensures { λ r. ⌜ r ≡ m * j - f * w ⌝ }
+{
+    let due = m * j;
+    let got = f * w;
+    if got < due { due - got } else { 0 }
+}
+
+// The most that a stretch from slot s on lacks, of those shorter than the frame. Its slots w are counted along.
+pub fn lack_from(plan: Plan, client: usize, m: usize, s: usize) -> usize
+    requires { ⌜ (s < plan .f) × (plan .f ≤ 64) × (m ≤ 64) ⌝ }
+    ensures { λ r. ⌜ r ≡ largest (plan .f) (lack (ownOf plan client) (plan .f) m s) ⌝ }
+{
+    let f = plan.f;
+    let owners = plan.owners;
+    let mut most = 0;
+    let mut w = 0;
+    let mut at = s;
+    let mut j = 0;
+    while j < f {
+        most = larger(most, lack_of(f, m, j, w));
+        let owner = owners[at];
+        w += owned_by(owner, client);
+        at = next(f, at);
+        j += 1;
+    }
+    most
+}
+
+// L, the client's scaled latency, by trying every start; m is its slots.
+pub fn scaled(plan: Plan, client: usize, m: usize) -> usize
+    requires { ⌜ (1 ≤ plan .f) × (plan .f ≤ 64) × (m ≡ slotsOf (ownOf plan client) (plan .f)) ⌝ }
+    ensures { λ r. ⌜ IsScaled (ownOf plan client) (plan .f) m r ⌝ }
+{
+    let f = plan.f;
+    let mut most = 0;
+    let mut s = 0;
+    while s < f {
+        most = larger(most, lack_from(plan, client, m, s));
+        s += 1;
+    }
+    most
+}
+
+// The figure of a client; one without slots has 0 and 0.
+pub fn figure(plan: Plan, client: usize) -> Figure
+    requires { ⌜ (1 ≤ plan .f) × (plan .f ≤ 64) ⌝ }
+    ensures { λ r. ⌜ IsFigure (ownOf plan client) (plan .f) r ⌝ }
+{
+    let m = slots(plan, client);
+    let l = scaled(plan, client, m);
+    Figure {
+        slots: m,
+        scaled: l,
+    }
+}
+
+// The wait for this many requests, from a client's figure: rounded up.
+pub fn wait_of(f: usize, figure: Figure, waiting: usize) -> usize
+    requires { ⌜ (f ≤ 64) × (1 ≤ figure .slots) × (figure .slots ≤ 64) ⌝ }
+    requires { ⌜ (figure .scaled ≤ 1024) × (waiting ≤ 255) ⌝ }
+    ensures { λ r. ⌜ IsWait f (figure .slots) (figure .scaled) waiting r ⌝ }
+{
+    let m = figure.slots;
+    let due = figure.scaled + waiting * f;
+    (due + (m - 1)) / m
+}

@@ -1,0 +1,71 @@
+// A client's figures: its slots in the frame, its scaled latency, and the wait for a number of requests. Every plan and
+// number gets an answer; `inner` has the functions for callers that have checked their plan.
+pub mod inner; // inner.rt
+
+use plan::Plan;
+use records::Outcome;
+use records::check_range;
+use records::refusal;
+ghost use Rattle.plan.specs.Plan.{defaultWaiting};
+ghost use Rattle.figures.specs.Figures.{IsFigures, IsWaitFor};
+
+// m, the client's slots in the frame, and L, its scaled latency.
+pub struct Figure {
+    pub slots: usize,
+    pub scaled: usize,
+}
+
+// A client's figure, or the refusal's number.
+pub enum Figures {
+    Given(Figure),
+    Refused(u8),
+}
+
+// A wait in slots, or the refusal's number.
+pub enum Wait {
+    Slots(usize),
+    Refused(u8),
+}
+
+// The figure of a client: 5 to 10 of the plan, then 13 and 14.
+pub fn figure_of(plan: Plan, client: usize) -> Figures
+    ensures { λ r. ⌜ IsFigures plan client r ⌝ }
+{
+    let checked = plan::check(plan);
+    if let Outcome::Refused(number, offset) = checked {
+        return Figures::Refused(number);
+    }
+    let asked = check_range(client, plan.n, refusal::ASKED);
+    if let Outcome::Refused(number, offset) = asked {
+        return Figures::Refused(number);
+    }
+    let figure = inner::figure(plan, client);
+    if figure.slots < 1 {
+        return Figures::Refused(refusal::NO_SLOT);
+    }
+    Figures::Given(figure)
+}
+
+// The wait of a client for this many waiting requests: the figure's refusals, then 15.
+pub fn wait_for(plan: Plan, client: usize, waiting: usize) -> Wait
+    ensures { λ r. ⌜ IsWaitFor plan client waiting r ⌝ }
+{
+    let figures = figure_of(plan, client);
+    match figures {
+        Figures::Refused(number) => Wait::Refused(number),
+        Figures::Given(figure) => {
+            let asked = check_range(waiting, 255, refusal::WAITING);
+            if let Outcome::Refused(number, offset) = asked {
+                return Wait::Refused(number);
+            }
+            Wait::Slots(inner::wait_of(plan.f, figure, waiting))
+        }
+    }
+}
+
+// The wait of a client, asked without a number.
+pub fn default_wait(plan: Plan, client: usize) -> Wait
+    ensures { λ r. ⌜ IsWaitFor plan client defaultWaiting r ⌝ }
+{
+    wait_for(plan, client, Plan::DEFAULT_WAITING)
+}
