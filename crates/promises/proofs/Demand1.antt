@@ -1,7 +1,6 @@
 -- Demand 1: every stream, plan and number handed in gets a defined reply. Each contract fixes result and lent bytes, so
--- two outcomes that it allows coincide; each refusal has its number; a refusal gives 0 for all else, a refused read
--- with
--- a plan of zeros, and leaves a lent output untouched.
+-- two outcomes that it allows coincide; each refusal has its number; a refusal gives 0 for all else, a refused read a
+-- plan of zeros, and leaves a lent output untouched.
 -- Assumes nothing.
 use mathlib.Core.Path.{_≡_, refl, sym, _∙_}
 use mathlib.Core.List.{List}
@@ -22,6 +21,13 @@ use Rattle.stream.specs.Read.{readCheck, planOf, planIf, readOf}
 use Rattle.stream.specs.Write.{streamOf, writeCheck, writtenBy, writtenOf, writtenNumber, writtenSize, bytesBy}
 use Rattle.stream.specs.Write.{bytesOf, Wrote}
 use Rattle.stream.specs.declared.Written.{Written}
+use Rattle.figures.specs.Check.{figureCheck, waitCheck}
+use Rattle.figures.specs.Figures.{IsFigures, IsWaitFor}
+use Rattle.figures.specs.declared.Figures.{Figures}
+use Rattle.figures.specs.declared.Wait.{Wait}
+use Rattle.figures.proofs.Questions.{Asked, figure-numbered, figure-fine, figure-pass, wait-numbered}
+use Rattle.figures.proofs.Once.{figures-once, wait-once as waits-once}
+use Rattle.figures.proofs.Same.{figures-same, wait-same as waits-same}
 use Rattle.promises.specs.Trip.{Copied}
 use Rattle.stream.proofs.Same.{same-stream}
 use Rattle.stream.proofs.Numbers.{read-numbered, write-numbered}
@@ -44,6 +50,13 @@ pub rewritten-once : (s out : List ℕ) (r r′ : Written) (now now′ : List �
 rewritten-once s out r r′ now now′ h h′ =
     (once _ r r′ (h .answer) (h′ .answer), once _ now now′ (h .bytes) (h′ .bytes))
 
+-- where it says "largest" and "rounded up": `figure_of`, `wait_for` and, with the default number, `default_wait`
+pub figure-once : (plan : Plan) (c : ℕ) (r r′ : Figures) → IsFigures plan c r → IsFigures plan c r′ → r ≡ r′
+figure-once = figures-once
+
+pub wait-once : (plan : Plan) (c k : ℕ) (r r′ : Wait) → IsWaitFor plan c k r → IsWaitFor plan c k r′ → r ≡ r′
+wait-once = waits-once
+
 -- ---- "Each refusal has its number"
 
 pub read-number : (s : List ℕ) → Numbered 11 (readOf s .outcome)
@@ -56,9 +69,20 @@ check-number = plan-numbered refusal.owner (omega arith)
 pub write-number : (plan : Plan) (room : ℕ) → Numbered 12 (writeCheck plan room)
 write-number plan room = write-numbered plan room
 
+pub figure-number : (plan : Plan) (c : ℕ) → Numbered 14 (figureCheck plan c)
+figure-number = figure-numbered refusal.noSlot (omega arith)
+
+pub wait-number : (plan : Plan) (c k : ℕ) → Numbered 15 (waitCheck plan c k)
+wait-number = wait-numbered refusal.waiting (omega arith)
+
 -- a plan passes exactly when it is in bounds
 pub check-exactly : (plan : Plan) → (planCheck plan ≡ Fine → Checked plan) × (Checked plan → planCheck plan ≡ Fine)
 check-exactly plan = (plan-fine plan, plan-pass plan)
+
+-- a question passes exactly when its plan is in bounds, its client is 1 to n and owns a slot
+pub figure-exactly : (plan : Plan) (c : ℕ)
+    → (figureCheck plan c ≡ Fine → Asked plan c) × (Asked plan c → figureCheck plan c ≡ Fine)
+figure-exactly plan c = (figure-fine plan c, figure-pass plan c)
 
 -- ---- "places past f .. and past n are ignored on the way in": plans that are the same get the same reply
 
@@ -72,6 +96,13 @@ write-same plan other out s =
     let e = same-check plan other s in
     let f = same-stream plan other s in
     (rw (e, f), rw (e, f))
+
+pub figure-same : (plan other : Plan) (c : ℕ) (r : Figures) → Same plan other → IsFigures plan c r → IsFigures other c r
+figure-same plan other c r s = figures-same plan other s c r
+
+pub wait-same : (plan other : Plan) (c k : ℕ) (r : Wait) → Same plan other → IsWaitFor plan c k r
+    → IsWaitFor other c k r
+wait-same plan other c k r s = waits-same plan other s c k r
 
 -- ---- what a refusal returns
 

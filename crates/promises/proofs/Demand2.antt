@@ -1,20 +1,26 @@
--- Demand 2, plan files: "Plans written are read back the same, and streams read are written back byte for byte". The
--- hypotheses that a list holds bytes (Bytes) and that a plan's numbers have two bytes (Held) are what the types say;
--- the
--- calls `rewritten` and `reread` of this crate show both, and so do the contracts of `stream::read` and
--- `stream::write`.
+-- Demand 2. Plan files: "Plans written are read back the same, and streams read are written back byte for byte". The
+-- hypotheses that a list holds bytes (Bytes) and that a plan's numbers have two bytes (Held) are what the types say:
+-- the calls `rewritten` and `reread` of this crate show both, and so do the contracts of `stream::read` and
+-- `stream::write`. Figures: the latency L/m is the least one of Definition 1, over the runs of one client's queue.
 -- Assumes nothing.
 use mathlib.Core.Path.{_≡_, refl, ap}
 use mathlib.Core.List.{List}
-use Prim.Native.Nat.{ℕ, _+_, _*_, _≤_}
+use Prim.Native.Nat.{ℕ, _+_, _-_, _*_, _≤_}
+use native.Mathlib.Omega.{arith}
 use lib.ListN.{length}
+use Rattle.frame.specs.Frame.{Frame, IsScaled, Consecutive}
+use Rattle.frame.specs.Queue.{Rule, Lawful, pending, servedIn}
+use Rattle.frame.specs.Service.{IsLatency}
+use Rattle.frame.proofs.Limits.{scaled-least, scaled-most, scaled-small, scaled-consecutive, wait-small}
+use Rattle.frame.proofs.Latency.{latency-is}
+use Rattle.frame.proofs.Service.{served-in-wait}
 use Rattle.records.specs.First.{numberOf}
 use Rattle.records.specs.declared.Outcome.{Outcome}
 use Rattle.records.specs.declared.Outcome.the-variants.{Fine}
 use Rattle.records.proofs.Refusals.{numbered-fine}
 use Rattle.records.proofs.Words.{Bytes}
 use Rattle.plan.specs.declared.Plan.{Plan}
-use Rattle.plan.specs.Plan.{Same, used}
+use Rattle.plan.specs.Plan.{ownOf, Same, used}
 use Rattle.plan.specs.Check.{planCheck}
 use Rattle.plan.proofs.Laws.{used-same, same-used, same-check}
 use Rattle.stream.specs.Kind.{rowsOf}
@@ -25,8 +31,17 @@ use Rattle.stream.specs.declared.Reading.{Reading}
 use Rattle.stream.proofs.Lengths.{length-stream, stream-sizes}
 use Rattle.stream.proofs.ReadBack.{read-back as stream-read-back}
 use Rattle.stream.proofs.WrittenBack.{written-back as stream-written-back, plan-right}
+use Rattle.figures.specs.declared.Figure.{Figure}
+use Rattle.figures.specs.declared.Figures.the-variants as figures
+use Rattle.figures.specs.declared.Wait.the-variants as wait
+use Rattle.figures.specs.Figures.{IsFigures, IsWaitFor}
+use Rattle.figures.proofs.Laws.{frame-of}
+use Rattle.figures.proofs.Questions.{Asked, figure-fine, wait-fine}
+use Rattle.figures.proofs.Answers.{given-fine, slots-fine}
 use Rattle.promises.specs.Trip.{rereadOf}
 use Rattle.promises.proofs.Demand1.{read-number, check-number}
+
+-- ---- plan files
 
 -- what a read that is not refused gives
 fine : (s : List ℕ) → numberOf (readOf s .outcome) ≡ 0 → readCheck s ≡ Fine
@@ -71,3 +86,57 @@ pub sized : (plan : Plan) → numberOf (planCheck plan) ≡ 0 → Sized plan
 sized plan h =
     let b = stream-sizes plan (numbered-fine 10 (planCheck plan) (check-number plan) h) in
     record { exact = length-stream plan; least = b .0; most = b .1 }
+
+-- ---- figures
+
+module _ (plan : Plan) (c : ℕ) (figure : Figure) (is : IsFigures plan c (figures.Given figure)) where
+  asked : Asked plan c
+  asked = figure-fine plan c (given-fine plan c figure is)
+
+  -- the client's frame and its L, with the figure's m
+  frame : Frame (ownOf plan c) (plan .f) (figure .slots)
+  frame = rw (is .figure (given-fine plan c figure is) .slots) (frame-of plan c (asked .checked .bounds .f-low))
+
+  scaled : IsScaled (ownOf plan c) (plan .f) (figure .slots) (figure .scaled)
+  scaled =
+      let right = is .figure (given-fine plan c figure is) in
+      rw (right .slots) (right .scaled)
+
+  -- "The latency given for a drive that owns a slot is exactly the least one that satisfies Definition 1 .. at its
+  -- allocated rate": it is L/m, and the rate m/f
+  pub latency : (rule : Rule) → Lawful rule
+      → IsLatency rule (ownOf plan c) (plan .f) (figure .slots) (figure .scaled) (figure .slots)
+  latency rule law = latency-is rule frame law (asked .checked .bounds .f-high) scaled
+
+  -- "For m above 0, always f − m ≤ L ≤ m × (f − m)"
+  pub limits : (plan .f - figure .slots ≤ figure .scaled)
+      × (figure .scaled ≤ figure .slots * (plan .f - figure .slots))
+      × (figure .scaled ≤ 1024)
+  limits = (
+    scaled-least frame scaled (omega (arith, frame .slots, asked .owns)),
+    scaled-most frame scaled,
+    scaled-small frame scaled (asked .checked .bounds .f-high),
+  )
+
+  -- "consecutive slots reach the upper end"
+  pub consecutive : (s : ℕ) → Consecutive (ownOf plan c) s (figure .slots)
+      → figure .scaled ≡ figure .slots * (plan .f - figure .slots)
+  consecutive s all = scaled-consecutive frame scaled s all
+
+module _ (plan : Plan) (c k w : ℕ) (is : IsWaitFor plan c k (wait.Slots w)) where
+  -- a request that is k-th in its queue in slot d of a run is served within the wait for k, that slot counted first
+  pub waited : (rule : Rule) (s v : ℕ) (xs : List ℕ) (d : ℕ) → k ≤ pending rule (ownOf plan c) s v xs d
+      → d + w ≤ length xs → k ≤ servedIn rule (ownOf plan c) s v xs d w
+  waited rule s v xs d l fits =
+      let passed = wait-fine plan c k (slots-fine plan c k w is) in
+      let right = is .wait (slots-fine plan c k w is) in
+      let frame = frame-of plan c (figure-fine plan c (passed .0) .checked .bounds .f-low) in
+      served-in-wait rule frame (right .scaled .bounded) s v xs d k w (right .wait) (passed .1) l fits
+
+  pub wait-limit : w ≤ 16383
+  wait-limit =
+      let passed = wait-fine plan c k (slots-fine plan c k w is) in
+      let right = is .wait (slots-fine plan c k w is) in
+      let ok = figure-fine plan c (passed .0) in
+      let most = scaled-most (frame-of plan c (ok .checked .bounds .f-low)) (right .scaled) in
+      wait-small (ok .owns) (ok .checked .bounds .f-high) most (passed .2) (right .wait)

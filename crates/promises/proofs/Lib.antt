@@ -2,3 +2,4 @@ pub mod Demand1
 pub mod Demand2
 pub mod Trips
 pub mod Worked
+pub mod Bench
