@@ -25,10 +25,14 @@ abbrev pub figuresNumber : Figures → ℕ
 figuresNumber (figures.Given figure) = 0
 figuresNumber (figures.Refused k) = k
 
+-- "all other results 0"
+abbrev pub noFigure : Figure
+noFigure = record { slots = 0; scaled = 0 }
+
 -- an answer's values: "A refusal .. returns its number with all other results 0"
 abbrev pub figureOf : Figures → Figure
 figureOf (figures.Given figure) = figure
-figureOf (figures.Refused k) = record { slots = 0; scaled = 0 }
+figureOf (figures.Refused k) = noFigure
 
 -- what an answer about client c is
 pub record IsFigures (plan : Plan) (c : ℕ) (r : Figures) : Type 0 where

@@ -37,14 +37,14 @@ pub fn slots(plan: Plan, client: usize) -> usize
 }
 
 // The larger of two numbers.
-pub fn larger(a: usize, b: usize) -> usize
+fn larger(a: usize, b: usize) -> usize
     ensures { λ r. ⌜ r ≡ max a b ⌝ }
 {
     if a < b { b } else { a }
 }
 
 // What a stretch of j slots, w of them the client's, lacks: m × j − f × w, or 0.
-pub fn lack_of(f: usize, m: usize, j: usize, w: usize) -> usize
+fn lack_of(f: usize, m: usize, j: usize, w: usize) -> usize
     requires { ⌜ (f ≤ 64) × (m ≤ 64) × (j ≤ 64) × (w ≤ 64) ⌝ }
     ensures { λ r. ⌜ r ≡ m * j - f * w ⌝ }
 {
@@ -54,7 +54,7 @@ pub fn lack_of(f: usize, m: usize, j: usize, w: usize) -> usize
 }
 
 // The most that a stretch from slot s on lacks, of those shorter than the frame. Its slots w are counted along.
-pub fn lack_from(plan: Plan, client: usize, m: usize, s: usize) -> usize
+fn lack_from(plan: Plan, client: usize, m: usize, s: usize) -> usize
     requires { ⌜ (s < plan .f) × (plan .f ≤ 64) × (m ≤ 64) ⌝ }
     ensures { λ r. ⌜ r ≡ largest (plan .f) (lack (ownOf plan client) (plan .f) m s) ⌝ }
 {

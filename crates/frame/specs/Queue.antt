@@ -9,10 +9,10 @@ pub record Rule : Type 0 where
   pub takes : ℕ → ℕ → ℕ
   pub turns : ℕ → ℕ → ℕ
 
--- what holds of every rule: 255 slots are pending at most, and 255 requests fill an empty queue with 240 slots or more
+-- what holds of every rule: 255 slots are pending at most, and 255 requests fill an empty queue for a whole frame
 pub record Lawful (rule : Rule) : Type 0 where
   pub room : (v x : ℕ) → v ≤ 255 → v + rule .takes v x ≤ 255
-  pub first : 240 ≤ rule .takes 0 255
+  pub first : 64 ≤ rule .takes 0 255
 
 -- "Each client's arrivals (0 to 255) join its pending count up to 255. The rest are turned away", one slot a request
 abbrev pub oneSlot : Rule

@@ -22,9 +22,11 @@ use Rattle.stream.specs.Write.{streamOf, writeCheck, writtenBy, writtenOf, writ
 use Rattle.stream.specs.Write.{bytesOf, Wrote}
 use Rattle.stream.specs.declared.Written.{Written}
 use Rattle.figures.specs.Check.{figureCheck, waitCheck}
-use Rattle.figures.specs.Figures.{IsFigures, IsWaitFor}
+use Rattle.figures.specs.Figures.{noFigure, figuresNumber, figureOf, IsFigures, waitNumber, waitSlots, IsWaitFor}
 use Rattle.figures.specs.declared.Figures.{Figures}
+use Rattle.figures.specs.declared.Figures.the-variants as figures
 use Rattle.figures.specs.declared.Wait.{Wait}
+use Rattle.figures.specs.declared.Wait.the-variants as wait
 use Rattle.figures.proofs.Questions.{Asked, figure-numbered, figure-fine, figure-pass, wait-numbered}
 use Rattle.figures.proofs.Once.{figures-once, wait-once as waits-once}
 use Rattle.figures.proofs.Same.{figures-same, wait-same as waits-same}
@@ -144,6 +146,18 @@ write-refused plan out h =
     let o : Outcome = writeCheck plan (length out) in
     let n = number-by o (length (streamOf plan)) in
     (size-by o (length (streamOf plan)) (λ e. h (n ∙ e)), bytes-by o (streamOf plan) out (λ e. h (n ∙ e)))
+
+-- a refused figure has the refusal's number, and 0 for m and L
+pub figure-refused : (plan : Plan) (c : ℕ) (r : Figures) → IsFigures plan c r → (numberOf (figureCheck plan c) ≡ 0 → ⊥)
+    → (figuresNumber r ≡ numberOf (figureCheck plan c)) × (figureOf r ≡ noFigure)
+figure-refused plan c (figures.Given figure) is h = absurd (h (sym (is .number)))
+figure-refused plan c (figures.Refused k) is h = (is .number, refl)
+
+-- a refused wait has the refusal's number, and 0 slots
+pub wait-refused : (plan : Plan) (c k : ℕ) (r : Wait) → IsWaitFor plan c k r → (numberOf (waitCheck plan c k) ≡ 0 → ⊥)
+    → (waitNumber r ≡ numberOf (waitCheck plan c k)) × (waitSlots r ≡ 0)
+wait-refused plan c k (wait.Slots w) is h = absurd (h (sym (is .number)))
+wait-refused plan c k (wait.Refused n) is h = (is .number, refl)
 
 kept-by : (o : Outcome) (stream out : List ℕ) → drop (length stream) (bytesBy o stream out) ≡ drop (length stream) out
 kept-by Fine stream out = drop-at stream (drop (length stream) out) (length stream) refl
