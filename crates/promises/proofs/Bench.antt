@@ -169,7 +169,6 @@ all-right : (es : List Example) → testAll es ≡ true → AllRight es
 all-right [] h = tt
 all-right (e ∷ es) h = let g = both (test e) (testAll es) h in (right e (g .0), all-right es (g .1))
 
--- P1 to P6
 pub bench : AllRight examples
 unfolding examples test slotAt scaledOf largest lack within waitOf
 bench = all-right examples refl

@@ -1,4 +1,4 @@
--- The bench examples of document 01 that are marked P, each an answer that the contracts allow; by `figures-once` and
+-- The bench examples of document 01 that are marked P, each an answer that the contracts allow; by `figure-once` and
 -- `wait-once` it is the only one. `bench` in proofs/Bench.antt proves the whole table.
 use mathlib.Core.Bool.{Bool, true, false}
 use mathlib.Core.List.{List, [], _∷_}
@@ -54,6 +54,7 @@ abbrev pub AllRight : List Example → Type 0
 AllRight [] = Unit {0}
 AllRight (e ∷ es) = Right e × AllRight es
 
+-- the tables of P1 to P6
 abbrev pub p1 : Table
 p1 = record { f = 6; slots = 0 ∷ 1 ∷ [] }
 
@@ -76,7 +77,11 @@ p6 = record { f = 64; slots = 0 ∷ [] }
 abbrev pub round : Table
 round = record { f = 6; slots = 1 ∷ 2 ∷ [] }
 
--- P1 to P6, and the table of the second slip
+-- source 000, Figure 3: the service latency is 4, the longest gap 3
+abbrev pub figure3 : Table
+figure3 = record { f = 10; slots = 3 ∷ 6 ∷ 7 ∷ 8 ∷ 9 ∷ [] }
+
+-- P1 to P6, the table of the second slip, and the paper's schedule
 unfoldable pub examples : List Example
 examples =
     figure p1 2 8
@@ -89,4 +94,5 @@ examples =
     ∷ figure p6 1 63
     ∷ waiting p6 255 16383
     ∷ figure round 2 8
+    ∷ figure figure3 5 20
     ∷ []
