@@ -62,7 +62,7 @@ figure-pass plan c ok =
 
 -- ---- waits
 
--- a wait that passes
+-- a wait passes exactly when the question does and its waiting number is 1 to 255
 pub wait-fine : (plan : Plan) (c n : ℕ) → waitCheck plan c n ≡ outcome.Fine
     → (figureCheck plan c ≡ outcome.Fine) × (1 ≤ n) × (n ≤ 255)
 unfolding waitCheck
@@ -70,6 +70,11 @@ wait-fine plan c n h =
     let a = both-fine _ _ h in
     let r = range-fine n 255 refusal.waiting (a .1) in
     (a .0, r .0, r .1)
+
+pub wait-pass : (plan : Plan) (c n : ℕ) → figureCheck plan c ≡ outcome.Fine → 1 ≤ n → n ≤ 255
+    → waitCheck plan c n ≡ outcome.Fine
+unfolding waitCheck
+wait-pass plan c n e low high = rw e (range-pass n 255 refusal.waiting low high)
 
 pub wait-numbered : (most : ℕ) → refusal.waiting ≤ most → (plan : Plan) (c n : ℕ)
     → Numbered most (waitCheck plan c n)

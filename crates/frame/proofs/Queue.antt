@@ -49,11 +49,10 @@ module _ (rule : Rule) (own : ℕ → ℕ) where
   left-room law s v [] l = l
   left-room law s v (x ∷ xs) l = left-room law (suc s) (after rule (own s) v x) xs (omega (arith, law .room v x l))
 
-  -- "at most once in a slot it owns, and never in another"
-  pub served-most : (s v : ℕ) (xs : List ℕ) → served rule own s v xs ≤ within own s (length xs)
+  most-served : (s v : ℕ) (xs : List ℕ) → served rule own s v xs ≤ within own s (length xs)
   unfolding total within
-  served-most s v [] = omega arith
-  served-most s v (x ∷ xs) = omega (arith, served-most (suc s) (after rule (own s) v x) xs)
+  most-served s v [] = omega arith
+  most-served s v (x ∷ xs) = omega (arith, most-served (suc s) (after rule (own s) v x) xs)
 
   -- ---- a part of a run is a run
 
@@ -80,6 +79,12 @@ module _ (rule : Rule) (own : ℕ → ℕ) where
       rw (take-add i j xs, total-append _ s v (take i xs) (take j (drop i xs)), long)
 
   -- ---- service
+
+  -- "at most once in a slot it owns, and never in another", in any j slots of a run; a single slot is j 1
+  pub served-most : (s v : ℕ) (xs : List ℕ) (i j : ℕ) → i + j ≤ length xs
+      → servedIn rule own s v xs i j ≤ within own (s + i) j
+  served-most s v xs i j fits =
+      rw (part-length xs i j fits) at (most-served (s + i) (left rule own s v (take i xs)) (take j (drop i xs)))
 
   pub served-all : ((s : ℕ) → own s ≤ 1) → (s v : ℕ) (xs : List ℕ)
       → ((d : ℕ) → d < length xs → 0 < pending rule own s v xs d) → served rule own s v xs ≡ within own s (length xs)

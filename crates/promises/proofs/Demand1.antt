@@ -27,7 +27,8 @@ use Rattle.figures.specs.declared.Figures.{Figures}
 use Rattle.figures.specs.declared.Figures.the-variants as figures
 use Rattle.figures.specs.declared.Wait.{Wait}
 use Rattle.figures.specs.declared.Wait.the-variants as wait
-use Rattle.figures.proofs.Questions.{Asked, figure-numbered, figure-fine, figure-pass, wait-numbered}
+use Rattle.figures.proofs.Questions.{Asked, figure-numbered, figure-fine, figure-pass, wait-fine, wait-pass}
+use Rattle.figures.proofs.Questions.{wait-numbered}
 use Rattle.figures.proofs.Once.{figures-once, wait-once as waits-once}
 use Rattle.figures.proofs.Same.{figures-same, wait-same as waits-same}
 use Rattle.promises.specs.Trip.{Copied}
@@ -85,6 +86,12 @@ check-exactly plan = (plan-fine plan, plan-pass plan)
 pub figure-exactly : (plan : Plan) (c : ℕ)
     → (figureCheck plan c ≡ Fine → Asked plan c) × (Asked plan c → figureCheck plan c ≡ Fine)
 figure-exactly plan c = (figure-fine plan c, figure-pass plan c)
+
+-- a wait passes exactly when the question does and its waiting number is 1 to 255
+pub wait-exactly : (plan : Plan) (c k : ℕ)
+    → (waitCheck plan c k ≡ Fine → (figureCheck plan c ≡ Fine) × (1 ≤ k) × (k ≤ 255))
+    × ((figureCheck plan c ≡ Fine) × (1 ≤ k) × (k ≤ 255) → waitCheck plan c k ≡ Fine)
+wait-exactly plan c k = (wait-fine plan c k, λ h. wait-pass plan c k (h .0) (h .1) (h .2))
 
 -- ---- "places past f .. and past n are ignored on the way in": plans that are the same get the same reply
 
