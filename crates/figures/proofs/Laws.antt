@@ -14,47 +14,35 @@ use Rattle.frame.proofs.Within.{next-mod, within-more, within-most}
 use Rattle.frame.proofs.Scaled.{scaled-is}
 use Rattle.records.specs.First.{pick}
 use Rattle.plan.specs.declared.Plan.{Plan}
-use Rattle.plan.specs.Plan.{ownOf}
-use Rattle.plan.proofs.Laws.{one-or-none, own-most, own-round}
-
--- ---- a client's slots, from the owners alone
-
--- the slots of client c in a frame of f slots that has these owners
-unfoldable pub ownIn : List ℕ → ℕ → ℕ → ℕ → ℕ
-ownIn owners f c s = pick (eqb (getD owners (s % f) 0) c) 1 0
-
-pub own-in : (plan : Plan) (c : ℕ) → ownIn (plan .owners) (plan .f) c ≡ ownOf plan c
-unfolding ownOf ownIn
-own-in plan c = refl
+use Rattle.plan.specs.Plan.{ownIn, ownOf}
+use Rattle.plan.proofs.Laws.{own-most, own-round}
 
 -- a plan's frame as one client sees it
 pub frame-of : (plan : Plan) (c : ℕ) → 0 < plan .f → Frame (ownOf plan c) (plan .f) (slotsOf (ownOf plan c) (plan .f))
-frame-of plan c f> = record { f> = f>; most = own-most plan c; round = own-round plan c; slots = refl }
+frame-of plan c f> =
+    record {
+      f> = f>;
+      most = own-most (plan .owners) (plan .f) c;
+      round = own-round (plan .owners) (plan .f) c;
+      slots = refl;
+    }
 
 -- ---- small numbers
 
 pub product-small : (a b : ℕ) → a ≤ 64 → b ≤ 64 → a * b ≤ 4096
 product-small a b l h = mul-le-mul l h
 
-pub slots-small : (plan : Plan) (c : ℕ) → plan .f ≤ 64 → slotsOf (ownOf plan c) (plan .f) ≤ 64
-slots-small plan c l = omega (arith, within-most (ownOf plan c) (own-most plan c) 0 (plan .f))
+pub count-small : (owners : List ℕ) (f c s j : ℕ) → j ≤ 64 → within (ownIn owners f c) s j ≤ 64
+count-small owners f c s j l = omega (arith, within-most (ownIn owners f c) (own-most owners f c) s j)
 
-module _ (owners : List ℕ) (f c : ℕ) where
-  in-most : (s : ℕ) → ownIn owners f c s ≤ 1
-  unfolding ownIn
-  in-most s = one-or-none (eqb (getD owners (s % f) 0) c)
+-- ---- one slot on
 
-  pub count-small : (s j : ℕ) → j ≤ 64 → within (ownIn owners f c) s j ≤ 64
-  count-small s j l = omega (arith, within-most (ownIn owners f c) in-most s j)
-
-  -- ---- one slot on
-
-  pub count-on : (s j w at o : ℕ) → w ≡ within (ownIn owners f c) s j → at ≡ (s + j) % f
-      → o ≡ pick (eqb (getD owners at 0) c) 1 0 → w + o ≡ within (ownIn owners f c) s (j + 1)
-  unfolding ownIn
-  count-on s j w at o e p h =
-      let here : o ≡ ownIn owners f c (s + j) = h ∙ ap (λ (x : ℕ). pick (eqb (getD owners x 0) c) 1 0) p in
-      omega (arith, within-more (ownIn owners f c) s j)
+pub count-on : (owners : List ℕ) (f c s j w at o : ℕ) → w ≡ within (ownIn owners f c) s j → at ≡ (s + j) % f
+    → o ≡ pick (eqb (getD owners at 0) c) 1 0 → w + o ≡ within (ownIn owners f c) s (j + 1)
+unfolding ownIn
+count-on owners f c s j w at o e p h =
+    let here : o ≡ ownIn owners f c (s + j) = h ∙ ap (λ (x : ℕ). pick (eqb (getD owners x 0) c) 1 0) p in
+    omega (arith, within-more (ownIn owners f c) s j)
 
 pub place-first : (f at : ℕ) → at < f → at ≡ (0 + at) % f
 place-first f at l = sym (ap (λ (x : ℕ). x % f) (zero-add at) ∙ mod-eq-of-lt l)

@@ -8,13 +8,12 @@ use Rattle.records.specs.declared.Outcome.the-variants.{Fine, Refused}
 use Rattle.records.proofs.Checks.{both-fine}
 use Rattle.plan.specs.declared.Plan.{Plan}
 use Rattle.plan.specs.Plan.{ownOf, Same}
-use Rattle.plan.specs.Check.{planCheck}
-use Rattle.plan.proofs.Laws.{plan-fine, same-check, own-same}
+use Rattle.plan.proofs.Laws.{same-check, own-same}
 use Rattle.figures.specs.declared.Figures.{Figures}
 use Rattle.figures.specs.declared.Wait.{Wait}
-use Rattle.figures.specs.Check.{figureCheck, waitCheck}
-use Rattle.figures.specs.Figures.{IsFigure, figureOf, IsFigures, Waits, waitSlots, IsWaitFor}
-use Rattle.figures.proofs.Questions.{figure-fine}
+use Rattle.figures.specs.Check.{askedCheck, ownsCheck, figureCheck, waitCheck}
+use Rattle.figures.specs.Figures.{IsFigure, figureIn, IsFigures, Waits, waitIn, IsWaitFor}
+use Rattle.figures.proofs.Questions.{asked-fine, figure-fine}
 
 or-same : (x x′ y y′ : Outcome) → x ≡ x′ → (x ≡ Fine → y ≡ y′) → orElse x y ≡ orElse x′ y′
 or-same Fine x′ y y′ e h = rw (← e) (h refl)
@@ -24,15 +23,19 @@ module _ (plan other : Plan) (same : Same plan other) (c : ℕ) where
   slots-same : 0 < plan .f → ownOf plan c ≡ ownOf other c
   slots-same f> = fun-ext (own-same plan other same f> c)
 
+  asked-check-same : askedCheck plan c ≡ askedCheck other c
+  unfolding askedCheck
+  asked-check-same = rw (same-check plan other same, same .count)
+
   pub figure-check-same : figureCheck plan c ≡ figureCheck other c
   unfolding figureCheck
   figure-check-same =
-      or-same (planCheck plan) (planCheck other) _ _ (same-check plan other same) (λ h.
-      rw (slots-same (plan-fine plan h .bounds .f-low), same .frame, same .count))
+      or-same (askedCheck plan c) (askedCheck other c) (ownsCheck plan c) (ownsCheck other c) asked-check-same (λ h.
+      rw (slots-same (asked-fine plan c h .0 .bounds .f-low), same .frame))
 
-  pub wait-check-same : (n : ℕ) → waitCheck plan c n ≡ waitCheck other c n
+  pub wait-check-same : (k : ℕ) → waitCheck plan c k ≡ waitCheck other c k
   unfolding waitCheck
-  wait-check-same n = rw figure-check-same
+  wait-check-same k = rw figure-check-same
 
   -- what holds of the client's slots in one plan holds in the other
   carried : (P : (ℕ → ℕ) → ℕ → Type 0) → figureCheck other c ≡ Fine
@@ -46,14 +49,14 @@ module _ (plan other : Plan) (same : Same plan other) (c : ℕ) where
   figures-same r is =
       record {
         number = is .number ∙ ap numberOf figure-check-same;
-        figure = λ h. carried (λ own f. IsFigure own f (figureOf r)) h (is .figure);
+        figure = λ h. carried (λ own f. IsFigure own f (figureIn r)) h (is .figure);
       }
 
-  pub wait-same : (n : ℕ) (r : Wait) → IsWaitFor plan c n r → IsWaitFor other c n r
+  pub waits-same : (k : ℕ) (r : Wait) → IsWaitFor plan c k r → IsWaitFor other c k r
   unfolding waitCheck
-  wait-same n r is =
+  waits-same k r is =
       record {
-        number = is .number ∙ ap numberOf (wait-check-same n);
+        number = is .number ∙ ap numberOf (wait-check-same k);
         wait = λ h.
-            carried (λ own f. Waits own f n (waitSlots r)) (both-fine _ _ h .0) (λ e. is .wait (wait-check-same n ∙ h));
+            carried (λ own f. Waits own f k (waitIn r)) (both-fine _ _ h .0) (λ e. is .wait (wait-check-same k ∙ h));
       }

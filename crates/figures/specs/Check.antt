@@ -10,18 +10,26 @@ use Rattle.plan.specs.declared.Plan.{Plan}
 use Rattle.plan.specs.Plan.{ownOf}
 use Rattle.plan.specs.Check.{planCheck}
 
--- 13: the client asked about is not 1 to n
-abbrev pub askedCheck : Plan → ℕ → Outcome
-askedCheck plan c = rangeCheck c (plan .n) refusal.asked
+-- the plan's checks, then 13: the client asked about is not 1 to n
+unfoldable pub askedCheck : Plan → ℕ → Outcome
+askedCheck plan c = orElse (planCheck plan) (rangeCheck c (plan .n) refusal.asked)
 
 -- 14: that client owns no slot
 abbrev pub ownsCheck : Plan → ℕ → Outcome
 ownsCheck plan c = need (leb 1 (slotsOf (ownOf plan c) (plan .f))) refusal.noSlot 0
 
--- figures: the plan's checks, 13, 14
+-- figures: the plan's checks, 13, then 14
 unfoldable pub figureCheck : Plan → ℕ → Outcome
-figureCheck plan c = orElse (planCheck plan) (orElse (askedCheck plan c) (ownsCheck plan c))
+figureCheck plan c = orElse (askedCheck plan c) (ownsCheck plan c)
 
--- waits: the plan's checks, 13, 14, then 15: the waiting number is not 1 to 255
+-- 15: "the waiting number is not 1 to 255"
+abbrev pub mostWaiting : ℕ
+mostWaiting = 255
+
+-- 15, of the waiting number k
+abbrev pub waitingCheck : ℕ → Outcome
+waitingCheck k = rangeCheck k mostWaiting refusal.waiting
+
+-- waits: the plan's checks, 13, 14, then 15
 unfoldable pub waitCheck : Plan → ℕ → ℕ → Outcome
-waitCheck plan c k = orElse (figureCheck plan c) (rangeCheck k 255 refusal.waiting)
+waitCheck plan c k = orElse (figureCheck plan c) (waitingCheck k)

@@ -23,41 +23,41 @@ pub record IsFigure (own : ℕ → ℕ) (f : ℕ) (figure : Figure) : Type 0 whe
 -- an answer's number, 0 where nothing is refused
 abbrev pub figuresNumber : Figures → ℕ
 figuresNumber (figures.Given figure) = 0
-figuresNumber (figures.Refused k) = k
+figuresNumber (figures.Refused number) = number
 
 -- "all other results 0"
 abbrev pub noFigure : Figure
 noFigure = record { slots = 0; scaled = 0 }
 
 -- an answer's values: "A refusal .. returns its number with all other results 0"
-abbrev pub figureOf : Figures → Figure
-figureOf (figures.Given figure) = figure
-figureOf (figures.Refused k) = noFigure
+abbrev pub figureIn : Figures → Figure
+figureIn (figures.Given figure) = figure
+figureIn (figures.Refused number) = noFigure
 
--- what an answer about client c is
+-- what an answer about client c is; where nothing is refused m is above 0, so that it is not a refusal
 pub record IsFigures (plan : Plan) (c : ℕ) (r : Figures) : Type 0 where
   pub number : figuresNumber r ≡ numberOf (figureCheck plan c)
-  pub figure : figureCheck plan c ≡ Fine → IsFigure (ownOf plan c) (plan .f) (figureOf r)
+  pub figure : figureCheck plan c ≡ Fine → IsFigure (ownOf plan c) (plan .f) (figureIn r)
 
 -- ---- waits
 
 -- a client's wait for k: "(L + k × f)/m rounded up", with its m and L
-pub record Waits (own : ℕ → ℕ) (f k w : ℕ) : Type 0 where
+pub record Waits (own : ℕ → ℕ) (f k wait : ℕ) : Type 0 where
   pub L : ℕ
   pub scaled : IsScaled own f (slotsOf own f) L
-  pub wait : IsWait f (slotsOf own f) L k w
+  pub least : IsWait f (slotsOf own f) L k wait
 
 -- an answer's number, 0 where nothing is refused
 abbrev pub waitNumber : Wait → ℕ
-waitNumber (wait.Slots w) = 0
-waitNumber (wait.Refused k) = k
+waitNumber (wait.Given slots) = 0
+waitNumber (wait.Refused number) = number
 
 -- an answer's value, 0 in a refusal
-abbrev pub waitSlots : Wait → ℕ
-waitSlots (wait.Slots w) = w
-waitSlots (wait.Refused k) = 0
+abbrev pub waitIn : Wait → ℕ
+waitIn (wait.Given slots) = slots
+waitIn (wait.Refused number) = 0
 
--- what an answer about client c and k waiting requests is
+-- what an answer about client c and k waiting requests is; where nothing is refused the wait is above 0, too
 pub record IsWaitFor (plan : Plan) (c k : ℕ) (r : Wait) : Type 0 where
   pub number : waitNumber r ≡ numberOf (waitCheck plan c k)
-  pub wait : waitCheck plan c k ≡ Fine → Waits (ownOf plan c) (plan .f) k (waitSlots r)
+  pub wait : waitCheck plan c k ≡ Fine → Waits (ownOf plan c) (plan .f) k (waitIn r)

@@ -1,7 +1,11 @@
-// The figures of a plan that is checked: f is 1 to 64.
+// The checks of a question about a client, and the figures of a plan that is checked: f is 1 to 64.
 use super::Figure;
 use frame::inner::next;
 use plan::Plan;
+use records::Outcome;
+use records::check_range;
+use records::or_else;
+use records::refusal;
 use records::wide;
 ghost use mathlib.Core.Path.{_≡_};
 ghost use Prim.Native.Nat.{_-_, _*_, _≤_, _<_, max};
@@ -10,7 +14,17 @@ ghost use Rattle.frame.specs.Frame.{slotsOf, IsScaled, IsWait};
 ghost use Rattle.frame.specs.Largest.{largest, lack};
 ghost use Rattle.records.specs.First.{pick};
 ghost use Rattle.plan.specs.Plan.{ownOf};
+ghost use Rattle.figures.specs.Check.{askedCheck};
 ghost use Rattle.figures.specs.Figures.{IsFigure};
+
+// The plan's checks, then 13.
+pub fn check_asked(plan: Plan, client: usize) -> Outcome
+    ensures { λ r. ⌜ r ≡ askedCheck plan client ⌝ }
+{
+    let checked = plan::check(plan);
+    let asked = check_range(client, plan.n, refusal::ASKED);
+    or_else(checked, asked)
+}
 
 // 1 where a slot's owner is the client, else 0.
 pub fn owned_by(owner: u8, client: usize) -> usize
@@ -89,12 +103,11 @@ pub fn scaled(plan: Plan, client: usize, m: usize) -> usize
     most
 }
 
-// The figure of a client; one without slots has 0 and 0.
-pub fn figure(plan: Plan, client: usize) -> Figure
-    requires { ⌜ (1 ≤ plan .f) × (plan .f ≤ 64) ⌝ }
+// The figure of a client; m is its slots.
+pub fn figure(plan: Plan, client: usize, m: usize) -> Figure
+    requires { ⌜ (1 ≤ plan .f) × (plan .f ≤ 64) × (m ≡ slotsOf (ownOf plan client) (plan .f)) ⌝ }
     ensures { λ r. ⌜ IsFigure (ownOf plan client) (plan .f) r ⌝ }
 {
-    let m = slots(plan, client);
     let l = scaled(plan, client, m);
     Figure {
         slots: m,

@@ -23,27 +23,26 @@ pub enum Figures {
 
 // A wait in slots, or the refusal's number.
 pub enum Wait {
-    Slots(usize),
+    Given(usize),
     Refused(u8),
 }
 
-// The figure of a client: 5 to 10 of the plan, then 13 and 14.
+// The highest waiting number.
+pub const MOST_WAITING: usize = 255;
+
+// The figure of a client: the plan's refusals, then 13 and 14.
 pub fn figure_of(plan: Plan, client: usize) -> Figures
     ensures { λ r. ⌜ IsFigures plan client r ⌝ }
 {
-    let checked = plan::check(plan);
-    if let Outcome::Refused(number, offset) = checked {
-        return Figures::Refused(number);
-    }
-    let asked = check_range(client, plan.n, refusal::ASKED);
+    let asked = inner::check_asked(plan, client);
     if let Outcome::Refused(number, offset) = asked {
         return Figures::Refused(number);
     }
-    let figure = inner::figure(plan, client);
-    if figure.slots < 1 {
+    let m = inner::slots(plan, client);
+    if m < 1 {
         return Figures::Refused(refusal::NO_SLOT);
     }
-    Figures::Given(figure)
+    Figures::Given(inner::figure(plan, client, m))
 }
 
 // The wait of a client for this many waiting requests: the figure's refusals, then 15.
@@ -54,11 +53,11 @@ pub fn wait_for(plan: Plan, client: usize, waiting: usize) -> Wait
     match figures {
         Figures::Refused(number) => Wait::Refused(number),
         Figures::Given(figure) => {
-            let asked = check_range(waiting, 255, refusal::WAITING);
+            let asked = check_range(waiting, MOST_WAITING, refusal::WAITING);
             if let Outcome::Refused(number, offset) = asked {
                 return Wait::Refused(number);
             }
-            Wait::Slots(inner::wait_of(plan.f, figure, waiting))
+            Wait::Given(inner::wait_of(plan.f, figure, waiting))
         }
     }
 }

@@ -6,14 +6,15 @@
 use mathlib.Core.Path.{_≡_, ap}
 use mathlib.Core.List.{List, [], _∷_}
 use mathlib.Core.Logic.{_↔_}
-use Prim.Native.Nat.{ℕ, zero, suc, _+_, _-_, _*_, _≤_, _<_}
+use Prim.Native.Nat.{ℕ, zero, suc, _+_, _*_, _≤_, _<_}
 use native.Mathlib.Nat.{mul-le-mul-left, mul-le-mul-right, le-trans}
 use native.Mathlib.Decide.{decLe}
 use native.Mathlib.Omega.{arith}
 use lib.ListN.{length, take, replicate, length-replicate}
 use Rattle.frame.specs.Frame.{within, Frame, Bounded, IsScaled}
-use Rattle.frame.specs.Queue.{Rule, Lawful, Arrivals, serve, queue, after, left, total, taken, served, pending}
-use Rattle.frame.specs.Service.{Guaranteed, Busy, Satisfies, IsLatency}
+use Rattle.frame.specs.Queue.{Rule, mostArriving, Lawful, Arrivals, serve, queue, after, left, total}
+use Rattle.frame.specs.Queue.{taken, served, pending}
+use Rattle.frame.specs.Service.{Guaranteed, Busy, Satisfies, SatisfiesEmpty, IsLatency}
 use Rattle.frame.proofs.Within.{slots-most}
 use Rattle.frame.proofs.Scaled.{Short, below-reached}
 use Rattle.frame.proofs.Queue.{served-all}
@@ -21,8 +22,8 @@ use Rattle.frame.proofs.Queue.{served-all}
 -- ---- L/m satisfies the equation
 
 module _ (rule : Rule) {own : ℕ → ℕ} {f m L : ℕ} (frame : Frame own f m) (bounded : Bounded own f m L) where
-  -- of e slots before slot s, in which S were served and R requested: the line of L holds however many of the slots to
-  -- come serve as they are owned
+  -- of the e slots before slot s, in which S were served: the line of L holds however many of the slots to come serve
+  -- as they are owned
   Line : (s S e : ℕ) → Type 0
   Line s S e = (j : ℕ) → m * (e + j) ≤ L + f * (S + within own s j)
 
@@ -33,7 +34,7 @@ module _ (rule : Rule) {own : ℕ → ℕ} {f m L : ℕ} (frame : Frame own f m)
       → R + rule .takes v x ≤ S + serve (own s) (queue rule v x)
   served-as-asked s v x S R l kept = omega (arith, frame .most s)
 
-  -- one slot on: served as owned, or all that was requested is served
+  -- one slot on, R having been requested: the slot serves as it is owned, or all that was requested is served
   line-on : (s v x S R e : ℕ) → Dec (own s ≤ queue rule v x) → v + S ≡ R → Line s S e
       → m * (e + 1) ≤ f * (R + rule .takes v x) → Line (suc s) (S + serve (own s) (queue rule v x)) (suc e)
   unfolding within Line
@@ -79,9 +80,9 @@ module _ (rule : Rule) {own : ℕ → ℕ} {f m L : ℕ} (frame : Frame own f m)
 
 -- ---- and none below it does
 
--- 255 requests in the first slot, none in the k slots after it
+-- the most that can arrive in the first slot, none in the k slots after it
 burst : ℕ → List ℕ
-burst k = 255 ∷ replicate k 0
+burst k = mostArriving ∷ replicate k 0
 
 none-arrive : (k : ℕ) → Arrivals (replicate k 0)
 none-arrive zero d = omega arith
@@ -94,51 +95,40 @@ burst-arrivals k zero = omega arith
 burst-arrivals k (suc d) = none-arrive k d
 
 module _ (rule : Rule) {own : ℕ → ℕ} {f m : ℕ} (frame : Frame own f m) where
-  -- a queue that holds as many as there are slots to come has a request pending in each
-  full-pending : (s v : ℕ) (xs : List ℕ) → length xs ≤ v → (d : ℕ) → d < length xs → 0 < pending rule own s v xs d
+  -- a queue that holds, in its first slot, as many as the run has slots has a request pending in each
+  full-pending : (s v x : ℕ) (xs : List ℕ) → suc (length xs) ≤ queue rule v x → (d : ℕ) → d < suc (length xs)
+      → 0 < pending rule own s v (x ∷ xs) d
   unfolding left
-  full-pending s v [] l d d< = absurd (omega arith)
-  full-pending s v (x ∷ xs) l zero d< = omega arith
-  full-pending s v (x ∷ xs) l (suc d) d< =
-      full-pending (suc s) (after rule (own s) v x) xs (omega (arith, frame .most s)) d (omega arith)
+  full-pending s v x xs l zero d< = omega arith
+  full-pending s v x [] l (suc d) d< = absurd (omega arith)
+  full-pending s v x (y ∷ ys) l (suc d) d< =
+      full-pending (suc s) (after rule (own s) v x) y ys (omega (arith, frame .most s)) d (omega arith)
 
-  burst-pending : (s x : ℕ) (xs : List ℕ) → suc (length xs) ≤ rule .takes 0 x → (d : ℕ) → d < suc (length xs)
-      → 0 < pending rule own s 0 (x ∷ xs) d
-  unfolding left
-  burst-pending s x xs l zero d< = omega arith
-  burst-pending s x xs l (suc d) d< =
-      full-pending (suc s) (after rule (own s) 0 x) xs (omega (arith, frame .most s)) d (omega arith)
-
-  burst-busy : (s x : ℕ) (xs : List ℕ) → suc (length xs) ≤ rule .takes 0 x → Busy rule own f m s 0 (x ∷ xs)
+  full-busy : (s x : ℕ) (xs : List ℕ) → suc (length xs) ≤ rule .takes 0 x → Busy rule own f m s 0 (x ∷ xs)
   unfolding total
-  burst-busy s x xs l zero i≤ = omega arith
-  burst-busy s x xs l (suc i) i≤ =
+  full-busy s x xs l zero i≤ = omega arith
+  full-busy s x xs l (suc i) i≤ =
       le-trans (mul-le-mul-right (suc i) (slots-most frame)) (mul-le-mul-left f (omega arith))
 
-  -- what Definition 1 asks of the periods that start with an empty queue
-  pub SatisfiesEmpty : ℕ → ℕ → Type 0
-  SatisfiesEmpty x y =
-      (s : ℕ) (xs : List ℕ) → s < f → Arrivals xs → Busy rule own f m s 0 xs
-      → Guaranteed m f x y (length xs) (served rule own s 0 xs)
+  reached-least : (L x y j w : ℕ) → m * j ≡ L + f * w → Guaranteed m f x y j w → L * y ≤ x * m
+  reached-least L x y j w e h = omega (arith, h, ap (λ (n : ℕ). y * n) e)
 
-  least-by : (L x y j w : ℕ) → m * j ≡ L + f * w → Guaranteed m f x y j w → L * y ≤ x * m
-  least-by L x y j w e h = omega (arith, h, ap (λ (n : ℕ). y * n) e)
-
-  -- a stretch that reaches L, as a busy period that a burst makes
-  burst-least : Lawful rule → f ≤ 64 → (L s k x y : ℕ) → s < f → suc k < f → m * suc k ≡ L + f * within own s (suc k)
-      → SatisfiesEmpty x y → L * y ≤ x * m
-  unfolding SatisfiesEmpty burst
-  burst-least law f≤ L s k x y s< k< there sat =
+  -- a stretch that reaches L, as the busy period of a burst
+  burst-least : Lawful rule → f ≤ 64 → (L s k x y : ℕ) → suc k < f → m * suc k ≡ L + f * within own s (suc k)
+      → SatisfiesEmpty rule own f m x y → L * y ≤ x * m
+  unfolding burst
+  burst-least law f≤ L s k x y k< there sat =
       let rest = replicate {A = ℕ} k 0 in
       let long : length rest ≡ k = length-replicate k ℕ.zero in
-      let fits : suc (length rest) ≤ rule .takes 0 255 = omega (arith, long, law .first) in
-      let all = served-all rule own (frame .most) s 0 (burst k) (burst-pending s 255 rest fits) in
-      let h = sat s (burst k) s< (burst-arrivals k) (burst-busy s 255 rest fits) in
-      least-by L x y (suc k) (within own s (suc k)) there (rw (all, long) at h)
+      let fits : suc (length rest) ≤ rule .takes 0 mostArriving = omega (arith, long, law .fills) in
+      let held : suc (length rest) ≤ queue rule 0 mostArriving = omega (arith, fits) in
+      let all = served-all rule own (frame .most) s 0 (burst k) (full-pending s 0 mostArriving rest held) in
+      let h = sat s (burst k) (burst-arrivals k) (full-busy s mostArriving rest fits) in
+      reached-least L x y (suc k) (within own s (suc k)) there (rw (all, long) at h)
 
   -- no smaller latency will do, not even if only the periods count that start with an empty queue
-  pub latency-least-empty : {L : ℕ} → Lawful rule → f ≤ 64 → IsScaled own f m L → (x y : ℕ) → SatisfiesEmpty x y
-      → L * y ≤ x * m
+  pub latency-least-empty : {L : ℕ} → Lawful rule → f ≤ 64 → IsScaled own f m L → (x y : ℕ)
+      → SatisfiesEmpty rule own f m x y → L * y ≤ x * m
   latency-least-empty {L} law f≤ scaled x y sat = by (r .long) (r .long<) (r .there)
     where
       r : Short own f m L
@@ -146,20 +136,20 @@ module _ (rule : Rule) {own : ℕ → ℕ} {f m : ℕ} (frame : Frame own f m) w
 
       by : (j : ℕ) → j < f → m * j ≡ L + f * within own (r .start) j → L * y ≤ x * m
       by zero j< there = let none : L ≡ 0 = omega arith in rw none (omega arith)
-      by (suc k) j< there = burst-least law f≤ L (r .start) k x y (r .start<) j< there sat
+      by (suc k) j< there = burst-least law f≤ L (r .start) k x y j< there sat
 
   latency-least : {L : ℕ} → Lawful rule → f ≤ 64 → IsScaled own f m L → (x y : ℕ) → Satisfies rule own f m x y
       → L * y ≤ x * m
-  unfolding SatisfiesEmpty
   latency-least law f≤ scaled x y sat =
-      latency-least-empty law f≤ scaled x y (λ s xs s< arrivals busy. sat s 0 xs (omega arith) arrivals busy)
+      latency-least-empty law f≤ scaled x y (λ s xs arrivals busy. sat s 0 xs (omega arith) arrivals busy)
 
-  -- Definition 1: L/m is the service latency
-  pub latency-is : {L : ℕ} → Lawful rule → f ≤ 64 → IsScaled own f m L → IsLatency rule own f m L m
-  latency-is {L} law f≤ scaled =
+  -- Definition 1: L/m is the service latency of a client that owns a slot
+  pub latency-is : {L : ℕ} → Lawful rule → f ≤ 64 → 0 < m → IsScaled own f m L → IsLatency rule own f m L m
+  latency-is {L} law f≤ m> scaled =
       record {
+        y> = m>;
         satisfies = latency-satisfies rule frame (scaled .bounded) L m (omega arith);
-        least = latency-least law f≤ scaled;
+        least = λ x y y> sat. latency-least law f≤ scaled x y sat;
       }
 
   -- "in time when L × b ≤ a × m": exactly when a/b satisfies the equation

@@ -17,7 +17,8 @@ use Rattle.frame.proofs.Scaled.{below-reached}
 least-by : (g m L v : ℕ) → suc v ≡ m → m * g ≤ L + suc g * v → suc g ≤ L + m
 least-by g m L v e h = omega (arith, h, ap (λ (k : ℕ). k * g) e)
 
--- a stretch of j slots, w of them owned, and the d slots that make a frame of it, at most d of them owned; f is m + i
+-- a stretch of j slots, w of them owned, and the d slots that make a frame of it, at most d of them owned: so w is at
+-- least m − d, and f × w at least m × (m − d); i is f − m
 most-by : (f m i L j w d : ℕ) → j + d ≡ f → m + i ≡ f → m ≤ w + d → m * j ≡ L + f * w → L ≤ m * i
 most-by f m i L j w d e g all there = by (decLe m d)
   where
@@ -83,7 +84,7 @@ module _ {own : ℕ → ℕ} {f m L : ℕ} (frame : Frame own f m) (scaled : IsS
 
 -- ---- the wait
 
-pub wait-small : {f m L k w : ℕ} → 0 < m → f ≤ 64 → L ≤ m * (f - m) → k ≤ 255 → IsWait f m L k w → w ≤ 16383
+pub wait-small : {f m L k r : ℕ} → 0 < m → f ≤ 64 → L ≤ m * (f - m) → k ≤ 255 → IsWait f m L k r → r ≤ 16383
 wait-small {f} {m} {L} {k} m> f≤ L≤ k≤ wait =
     let rest : f - m ≤ 63 = omega arith in
     let asked = mul-le-mul k≤ f≤ in

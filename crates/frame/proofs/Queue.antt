@@ -9,12 +9,18 @@ use native.Mathlib.Omega.{arith}
 use lib.ListN.{length, take, drop, length-drop}
 use lib.Seq.{length-take-le, take-add, take-take, getD-take, getD-drop}
 use Rattle.frame.specs.Frame.{within}
-use Rattle.frame.specs.Queue.{Rule, Lawful, oneSlot, serve, queue, after, left, total, taken, turned, served}
-use Rattle.frame.specs.Queue.{pending, servedIn}
-use Rattle.frame.specs.Service.{Waiting}
+use Rattle.frame.specs.Queue.{Rule, mostPending, Lawful, oneSlot, serve, queue, after, left, total}
+use Rattle.frame.specs.Queue.{taken, turned, served, pending, servedIn}
+use Rattle.frame.specs.Service.{AlwaysPending}
+
+-- ---- requests of one slot
 
 pub one-slot-lawful : Lawful oneSlot
-one-slot-lawful = record { room = λ v x l. omega arith; first = omega arith }
+one-slot-lawful = record { room = λ v x l. omega arith; fills = omega arith }
+
+-- "The rest are turned away"
+pub one-slot-rest : (v x : ℕ) → oneSlot .takes v x + oneSlot .turns v x ≡ x
+one-slot-rest v x = omega arith
 
 module _ (rule : Rule) (own : ℕ → ℕ) where
   -- ---- a run in two parts
@@ -44,7 +50,7 @@ module _ (rule : Rule) (own : ℕ → ℕ) where
   conserved s v (x ∷ xs) = omega (arith, conserved (suc s) (after rule (own s) v x) xs)
 
   -- "a pending count of 0 to 255"
-  pub left-room : Lawful rule → (s v : ℕ) (xs : List ℕ) → v ≤ 255 → left rule own s v xs ≤ 255
+  pub left-room : Lawful rule → (s v : ℕ) (xs : List ℕ) → v ≤ mostPending → left rule own s v xs ≤ mostPending
   unfolding left
   left-room law s v [] l = l
   left-room law s v (x ∷ xs) l = left-room law (suc s) (after rule (own s) v x) xs (omega (arith, law .room v x l))
@@ -95,17 +101,17 @@ module _ (rule : Rule) (own : ℕ → ℕ) where
       omega (arith, most s, w 0 (omega arith), rest)
 
   -- where a request is pending in each slot, each of the client's slots serves one
-  pub served-within : ((s : ℕ) → own s ≤ 1) → (s v : ℕ) (xs : List ℕ) (i j : ℕ) → i + j ≤ length xs
-      → Waiting rule own s v xs i j → servedIn rule own s v xs i j ≡ within own (s + i) j
-  served-within most s v xs i j fits w =
+  pub served-within : ((s : ℕ) → own s ≤ 1) → (s v : ℕ) (xs : List ℕ) (i j : ℕ) → AlwaysPending rule own s v xs i j
+      → servedIn rule own s v xs i j ≡ within own (s + i) j
+  served-within most s v xs i j w =
       let here = left rule own s v (take i xs) in
-      rw (part-length xs i j fits) at (served-all most (s + i) here (take j (drop i xs)) each)
+      rw (part-length xs i j (w .fits)) at (served-all most (s + i) here (take j (drop i xs)) each)
     where
       each : (d : ℕ) → d < length (take j (drop i xs))
           → 0 < pending rule own (s + i) (left rule own s v (take i xs)) (take j (drop i xs)) d
       each d l =
-          let l′ : d < j = omega (arith, l, part-length xs i j fits) in
-          rw (part-pending s v xs i j d fits l′) at (w d l′)
+          let l′ : d < j = omega (arith, l, part-length xs i j (w .fits)) in
+          rw (part-pending s v xs i j d (w .fits) l′) at (w .each d l′)
 
   -- k of what is pending are served as the client's slots come
   served-early : (s v k : ℕ) (xs : List ℕ) → k ≤ v → min k (within own s (length xs)) ≤ served rule own s v xs

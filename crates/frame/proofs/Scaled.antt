@@ -112,8 +112,8 @@ unfolding waitOf
 wait-is f m L k m> =
     record {
       enough = omega (arith, lt-div-mul-add {a = L + k * f + (m - 1)} m>);
-      least = λ v h. omega (arith, div-lt-iff-lt-mul {x = L + k * f + (m - 1)} {y = v + 1} m> .1 (omega arith));
+      least = λ j h. omega (arith, div-lt-iff-lt-mul {x = L + k * f + (m - 1)} {y = j + 1} m> .1 (omega arith));
     }
 
-pub wait-one : {f m L k w w′ : ℕ} → IsWait f m L k w → IsWait f m L k w′ → w ≡ w′
-wait-one {f} {m} {L} {k} {w} {w′} a b = omega (arith, a .least w′ (b .enough), b .least w (a .enough))
+pub wait-one : {f m L k r r′ : ℕ} → IsWait f m L k r → IsWait f m L k r′ → r ≡ r′
+wait-one {f} {m} {L} {k} {r} {r′} a b = omega (arith, a .least r′ (b .enough), b .least r (a .enough))

@@ -8,7 +8,7 @@ use lib.ListN.{length, take, drop, getD}
 use lib.Seq.{drop-cons}
 use Rattle.frame.specs.Frame.{within, Frame, Bounded, IsWait}
 use Rattle.frame.specs.Queue.{Rule, left, pending, servedIn}
-use Rattle.frame.specs.Service.{Guaranteed, Waiting}
+use Rattle.frame.specs.Service.{Guaranteed, AlwaysPending}
 use Rattle.frame.proofs.Within.{within-none}
 use Rattle.frame.proofs.Queue.{part-length, served-within, served-first}
 
@@ -41,26 +41,26 @@ module _ {own : ℕ → ℕ} {f m L : ℕ} (frame : Frame own f m) (bounded : Bo
 -- each has its service
 pub demand-three : (rule : Rule) (own : ℕ → ℕ) → ((s : ℕ) → own s ≤ 1) → (p q a b : ℕ)
     → ((s j : ℕ) → Guaranteed p q a b j (within own s j))
-    → (s v : ℕ) (xs : List ℕ) (i j : ℕ) → i + j ≤ length xs → Waiting rule own s v xs i j
+    → (s v : ℕ) (xs : List ℕ) (i j : ℕ) → AlwaysPending rule own s v xs i j
     → Guaranteed p q a b j (servedIn rule own s v xs i j)
-demand-three rule own most p q a b slots s v xs i j fits w =
-    rw (served-within rule own most s v xs i j fits w) (slots (s + i) j)
+demand-three rule own most p q a b slots s v xs i j w =
+    rw (served-within rule own most s v xs i j w) (slots (s + i) j)
 
 -- ---- the wait
 
 -- "a request that is k-th in its queue after arrivals", in slot d, "is served within the wait for k, that slot counted
 -- first"
 pub served-in-wait : (rule : Rule) {own : ℕ → ℕ} {f m L : ℕ} → Frame own f m → Bounded own f m L
-    → (s v : ℕ) (xs : List ℕ) (d k w : ℕ) → IsWait f m L k w → 0 < k → k ≤ pending rule own s v xs d → d + w ≤ length xs
-    → k ≤ servedIn rule own s v xs d w
-served-in-wait rule {own} {f} {m} {L} frame bounded s v xs d k w wait k> l fits = by w (wait .enough) fits
+    → (s v : ℕ) (xs : List ℕ) (d k r : ℕ) → IsWait f m L k r → 0 < k → k ≤ pending rule own s v xs d → d + r ≤ length xs
+    → k ≤ servedIn rule own s v xs d r
+served-in-wait rule {own} {f} {m} {L} frame bounded s v xs d k r wait k> l fits = by r (wait .enough) fits
   where
-    by : (w : ℕ) → L + k * f ≤ m * w → d + w ≤ length xs → k ≤ servedIn rule own s v xs d w
+    by : (r : ℕ) → L + k * f ≤ m * r → d + r ≤ length xs → k ≤ servedIn rule own s v xs d r
     by zero h fits = absurd (omega (arith, stretch-enough frame bounded s 0 k h, within-none own s))
-    by (suc w) h fits =
-        let rest = part-length rule own xs (suc d) w (omega arith) in
-        let k≤ = stretch-enough frame bounded (s + d) (suc w) k h in
+    by (suc r) h fits =
+        let rest = part-length rule own xs (suc d) r (omega arith) in
+        let k≤ = stretch-enough frame bounded (s + d) (suc r) k h in
         let x = getD xs d 0 in
         let here = left rule own s v (take d xs) in
         rw (drop-cons xs d 0 (omega arith))
-        (omega (arith, k≤, rw rest at (served-first rule own (s + d) here x k (take w (drop (suc d) xs)) l)))
+        (omega (arith, k≤, rw rest at (served-first rule own (s + d) here x k (take r (drop (suc d) xs)) l)))

@@ -38,10 +38,10 @@ pub record IsScaled (own : ℕ → ℕ) (f m L : ℕ) : Type 0 where
   pub bounded : Bounded own f m L
   pub reached : Reached own f m L
 
--- "The wait for k waiting requests is (L + k × f)/m rounded up": the least w with L + k × f ≤ m × w
-pub record IsWait (f m L k w : ℕ) : Type 0 where
-  pub enough : L + k * f ≤ m * w
-  pub least : (v : ℕ) → L + k * f ≤ m * v → w ≤ v
+-- "The wait for k waiting requests is (L + k × f)/m rounded up": the least number of slots j with L + k × f ≤ m × j
+pub record IsWait (f m L k wait : ℕ) : Type 0 where
+  pub enough : L + k * f ≤ m * wait
+  pub least : (j : ℕ) → L + k * f ≤ m * j → wait ≤ j
 
 -- "consecutive slots": the m slots from s on are the client's
 abbrev pub Consecutive : (ℕ → ℕ) → ℕ → ℕ → Type 0

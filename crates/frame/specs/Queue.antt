@@ -9,20 +9,29 @@ pub record Rule : Type 0 where
   pub takes : ℕ → ℕ → ℕ
   pub turns : ℕ → ℕ → ℕ
 
--- what holds of every rule: 255 slots are pending at most, and 255 requests fill an empty queue for a whole frame
+-- "a pending count of 0 to 255"
+abbrev pub mostPending : ℕ
+mostPending = 255
+
+-- "arrivals (0 to 255)"
+abbrev pub mostArriving : ℕ
+mostArriving = 255
+
+-- what holds of every rule: no more are pending, and the most that can arrive fill an empty queue for a whole frame
 pub record Lawful (rule : Rule) : Type 0 where
-  pub room : (v x : ℕ) → v ≤ 255 → v + rule .takes v x ≤ 255
-  pub first : 64 ≤ rule .takes 0 255
+  pub room : (v x : ℕ) → v ≤ mostPending → v + rule .takes v x ≤ mostPending
+  pub fills : 64 ≤ rule .takes 0 mostArriving
 
--- "Each client's arrivals (0 to 255) join its pending count up to 255. The rest are turned away", one slot a request
+-- "Each client's arrivals .. join its pending count up to 255. The rest are turned away", one slot a request
 abbrev pub oneSlot : Rule
-oneSlot = record { takes = λ v x. min x (255 - v); turns = λ v x. x - min x (255 - v) }
+oneSlot = record { takes = λ v x. min x (mostPending - v); turns = λ v x. x - min x (mostPending - v) }
 
--- arrivals "(0 to 255)", slot by slot
+-- a list of arrivals, slot by slot
 abbrev pub Arrivals : List ℕ → Type 0
-Arrivals xs = (d : ℕ) → getD xs d 0 ≤ 255
+Arrivals xs = (d : ℕ) → getD xs d 0 ≤ mostArriving
 
--- "If the slot has an owner and its pending count is above 0, one of its requests is served": of q, o is 1 in its slot
+-- "If the slot has an owner and its pending count is above 0, one of its requests is served": of q pending; o is 1
+-- where the slot is the client's
 abbrev pub serve : ℕ → ℕ → ℕ
 serve o q = min o q
 

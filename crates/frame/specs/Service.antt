@@ -2,7 +2,7 @@
 use Prim.Native.Nat.{ℕ, _+_, _*_, _≤_, _<_}
 use mathlib.Core.List.{List}
 use lib.ListN.{length, take}
-use Rattle.frame.specs.Queue.{Rule, Arrivals, taken, served, pending}
+use Rattle.frame.specs.Queue.{Rule, mostPending, Arrivals, taken, served, pending}
 
 -- source 000, Equation (1): w ≥ ρ × (j − Θ), for w served in j slots at the rate ρ = p/q and the latency Θ = a/b; and
 -- demand 3, "Subtract its required latency from the run's length and multiply by its required rate: it is served at
@@ -12,8 +12,9 @@ Guaranteed p q a b j w = p * (b * j) ≤ p * a + q * (b * w)
 
 module _ (rule : Rule) (own : ℕ → ℕ) where
   -- "consecutive slots in each of which a drive has a request pending": the j slots from slot i of a run
-  abbrev pub Waiting : ℕ → ℕ → List ℕ → ℕ → ℕ → Type 0
-  Waiting s v xs i j = (d : ℕ) → d < j → 0 < pending rule own s v xs (i + d)
+  pub record AlwaysPending (s v : ℕ) (xs : List ℕ) (i j : ℕ) : Type 0 where
+    pub fits : i + j ≤ length xs
+    pub each : (d : ℕ) → d < j → 0 < pending rule own s v xs (i + d)
 
 module _ (rule : Rule) (own : ℕ → ℕ) (f m : ℕ) where
   -- source 000, Section III: a busy period, in which the client "requests at least as much service as it has been
@@ -25,10 +26,16 @@ module _ (rule : Rule) (own : ℕ → ℕ) (f m : ℕ) where
   -- during a busy period", at the allocated rate m/f
   abbrev pub Satisfies : ℕ → ℕ → Type 0
   Satisfies x y =
-      (s v : ℕ) (xs : List ℕ) → v ≤ 255 → Arrivals xs → Busy s v xs
+      (s v : ℕ) (xs : List ℕ) → v ≤ mostPending → Arrivals xs → Busy s v xs
       → Guaranteed m f x y (length xs) (served rule own s v xs)
 
-  -- "The minimum non-negative constant satisfying the equation is the service latency": it is x/y
+  -- the same asked only of the busy periods that start with an empty queue
+  abbrev pub SatisfiesEmpty : ℕ → ℕ → Type 0
+  SatisfiesEmpty x y =
+      (s : ℕ) (xs : List ℕ) → Arrivals xs → Busy s 0 xs → Guaranteed m f x y (length xs) (served rule own s 0 xs)
+
+  -- "The minimum non-negative constant satisfying the equation is the service latency": of all fractions, it is x/y
   pub record IsLatency (x y : ℕ) : Type 0 where
+    pub y> : 0 < y
     pub satisfies : Satisfies x y
-    pub least : (x′ y′ : ℕ) → Satisfies x′ y′ → x * y′ ≤ x′ * y
+    pub least : (x′ y′ : ℕ) → 0 < y′ → Satisfies x′ y′ → x * y′ ≤ x′ * y

@@ -3,10 +3,12 @@
 -- Assumes nothing.
 use mathlib.Core.Path.{_≡_, refl, ap, sym}
 use mathlib.Core.Bool.{Bool, true, false}
+use mathlib.Core.List.{List}
 use Prim.Native.Nat.{ℕ, _+_, _%_, _≤_, _<_}
 use native.Mathlib.Nat.{add-mod-right, mod-lt}
 use native.Mathlib.Omega.{arith}
 use lib.Dec.{eqb}
+use lib.ListN.{getD}
 use borrow.Author.Tests.{leb-true, le-leb}
 use Rattle.records.specs.Refusal as refusal
 use Rattle.records.specs.First.{pick}
@@ -16,7 +18,7 @@ use Rattle.records.proofs.Checks.{first-same}
 use Rattle.records.proofs.Lists.{get-padded, padded-same}
 use Rattle.plan.specs.declared.Client.{Client}
 use Rattle.plan.specs.declared.Plan.{Plan}
-use Rattle.plan.specs.Plan.{noClient, clientOf, ownerOf, ownOf, Same, used}
+use Rattle.plan.specs.Plan.{noClient, clientOf, ownerOf, ownIn, ownOf, Same, used}
 use Rattle.plan.specs.Check.{clientCheck, ownerCheck, clientStep, requirementsCheck}
 use Rattle.plan.specs.Check.{ownerStep, ownersCheck, planCheck}
 
@@ -135,17 +137,17 @@ pub one-or-none : (b : Bool) → pick b 1 0 ≤ 1
 one-or-none true = omega arith
 one-or-none false = omega arith
 
-pub own-most : (plan : Plan) (c s : ℕ) → ownOf plan c s ≤ 1
-unfolding ownOf
-own-most plan c s = one-or-none (eqb (ownerOf plan (s % plan .f)) c)
+pub own-most : (owners : List ℕ) (f c s : ℕ) → ownIn owners f c s ≤ 1
+unfolding ownIn
+own-most owners f c s = one-or-none (eqb (getD owners (s % f) 0) c)
 
-pub own-round : (plan : Plan) (c s : ℕ) → ownOf plan c (s + plan .f) ≡ ownOf plan c s
-unfolding ownOf
-own-round plan c s = rw (add-mod-right s (plan .f))
+pub own-round : (owners : List ℕ) (f c s : ℕ) → ownIn owners f c (s + f) ≡ ownIn owners f c s
+unfolding ownIn
+own-round owners f c s = rw (add-mod-right s f)
 
 -- a client of plans that are the same has the same slots
 pub own-same : (plan other : Plan) → Same plan other → 0 < plan .f → (c s : ℕ) → ownOf plan c s ≡ ownOf other c s
-unfolding ownOf
+unfolding ownIn
 own-same plan other same f> c s =
     let e : ownerOf plan (s % plan .f) ≡ ownerOf other (s % plan .f) = same .owners (s % plan .f) (mod-lt s f>) in
     rw (e, same .frame)

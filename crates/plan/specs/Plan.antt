@@ -1,5 +1,6 @@
 -- The plan as a value (document 01, Plan).
 use mathlib.Core.Path.{_≡_}
+use mathlib.Core.List.{List}
 use Prim.Native.Nat.{ℕ, _%_, _<_}
 use lib.Dec.{eqb}
 use lib.ListN.{getD, replicate}
@@ -24,9 +25,14 @@ clientOf plan i = getD (plan .clients) i noClient
 abbrev pub ownerOf : Plan → ℕ → ℕ
 ownerOf plan x = getD (plan .owners) x 0
 
--- the slots of client c in the frame that repeats: 1 where slot s, counted on without end, is its own, else 0
-unfoldable pub ownOf : Plan → ℕ → ℕ → ℕ
-ownOf plan c s = pick (eqb (ownerOf plan (s % plan .f)) c) 1 0
+-- the slots of client c where a frame of f slots that repeats has these owners: 1 where slot s, counted on without end,
+-- is its own, else 0
+unfoldable pub ownIn : List ℕ → ℕ → ℕ → ℕ → ℕ
+ownIn owners f c s = pick (eqb (getD owners (s % f) 0) c) 1 0
+
+-- the slots of client c of a plan
+abbrev pub ownOf : Plan → ℕ → ℕ → ℕ
+ownOf plan = ownIn (plan .owners) (plan .f)
 
 -- "Plans are the same when f, n and the used places agree"
 pub record Same (plan other : Plan) : Type 0 where

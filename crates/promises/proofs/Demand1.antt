@@ -22,15 +22,17 @@ use Rattle.stream.specs.Write.{streamOf, writeCheck, writtenBy, writtenOf, writ
 use Rattle.stream.specs.Write.{bytesOf, Wrote}
 use Rattle.stream.specs.declared.Written.{Written}
 use Rattle.figures.specs.Check.{figureCheck, waitCheck}
-use Rattle.figures.specs.Figures.{noFigure, figuresNumber, figureOf, IsFigures, waitNumber, waitSlots, IsWaitFor}
+use Rattle.figures.specs.Figures.{noFigure, figuresNumber, figureIn, IsFigures, waitNumber, waitIn, IsWaitFor}
+use Rattle.figures.specs.declared.Figure.{Figure}
 use Rattle.figures.specs.declared.Figures.{Figures}
 use Rattle.figures.specs.declared.Figures.the-variants as figures
 use Rattle.figures.specs.declared.Wait.{Wait}
 use Rattle.figures.specs.declared.Wait.the-variants as wait
-use Rattle.figures.proofs.Questions.{Asked, figure-numbered, figure-fine, figure-pass, wait-fine, wait-pass}
+use Rattle.figures.proofs.Questions.{Asked, figure-numbered, figure-fine, figure-pass, Waited, wait-fine, wait-pass}
 use Rattle.figures.proofs.Questions.{wait-numbered}
-use Rattle.figures.proofs.Once.{figures-once, wait-once as waits-once}
-use Rattle.figures.proofs.Same.{figures-same, wait-same as waits-same}
+use Rattle.figures.proofs.Answers.{refused-not-fine, wait-refused-not-fine}
+use Rattle.figures.proofs.Once.{figures-once, waits-once}
+use Rattle.figures.proofs.Same.{figures-same, waits-same}
 use Rattle.promises.specs.Trip.{Copied}
 use Rattle.stream.proofs.Same.{same-stream}
 use Rattle.stream.proofs.Numbers.{read-numbered, write-numbered}
@@ -89,9 +91,20 @@ figure-exactly plan c = (figure-fine plan c, figure-pass plan c)
 
 -- a wait passes exactly when the question does and its waiting number is 1 to 255
 pub wait-exactly : (plan : Plan) (c k : ℕ)
-    → (waitCheck plan c k ≡ Fine → (figureCheck plan c ≡ Fine) × (1 ≤ k) × (k ≤ 255))
-    × ((figureCheck plan c ≡ Fine) × (1 ≤ k) × (k ≤ 255) → waitCheck plan c k ≡ Fine)
-wait-exactly plan c k = (wait-fine plan c k, λ h. wait-pass plan c k (h .0) (h .1) (h .2))
+    → (waitCheck plan c k ≡ Fine → Waited plan c k) × (Waited plan c k → waitCheck plan c k ≡ Fine)
+wait-exactly plan c k = (wait-fine plan c k, wait-pass plan c k)
+
+-- and where it passes, its answer is given
+pub figure-given : (plan : Plan) (c : ℕ) (r : Figures) → Asked plan c → IsFigures plan c r
+    → (figure : Figure) × (r ≡ figures.Given figure)
+figure-given plan c (figures.Given figure) ok is = (figure, refl)
+figure-given plan c (figures.Refused number) ok is = absurd (refused-not-fine plan c number is (figure-pass plan c ok))
+
+pub wait-given : (plan : Plan) (c k : ℕ) (r : Wait) → Waited plan c k → IsWaitFor plan c k r
+    → (slots : ℕ) × (r ≡ wait.Given slots)
+wait-given plan c k (wait.Given slots) ok is = (slots, refl)
+wait-given plan c k (wait.Refused number) ok is =
+    absurd (wait-refused-not-fine plan c k number is (wait-pass plan c k ok))
 
 -- ---- "places past f .. and past n are ignored on the way in": plans that are the same get the same reply
 
@@ -156,15 +169,15 @@ write-refused plan out h =
 
 -- a refused figure has the refusal's number, and 0 for m and L
 pub figure-refused : (plan : Plan) (c : ℕ) (r : Figures) → IsFigures plan c r → (numberOf (figureCheck plan c) ≡ 0 → ⊥)
-    → (figuresNumber r ≡ numberOf (figureCheck plan c)) × (figureOf r ≡ noFigure)
+    → (figuresNumber r ≡ numberOf (figureCheck plan c)) × (figureIn r ≡ noFigure)
 figure-refused plan c (figures.Given figure) is h = absurd (h (sym (is .number)))
-figure-refused plan c (figures.Refused k) is h = (is .number, refl)
+figure-refused plan c (figures.Refused number) is h = (is .number, refl)
 
 -- a refused wait has the refusal's number, and 0 slots
 pub wait-refused : (plan : Plan) (c k : ℕ) (r : Wait) → IsWaitFor plan c k r → (numberOf (waitCheck plan c k) ≡ 0 → ⊥)
-    → (waitNumber r ≡ numberOf (waitCheck plan c k)) × (waitSlots r ≡ 0)
-wait-refused plan c k (wait.Slots w) is h = absurd (h (sym (is .number)))
-wait-refused plan c k (wait.Refused n) is h = (is .number, refl)
+    → (waitNumber r ≡ numberOf (waitCheck plan c k)) × (waitIn r ≡ 0)
+wait-refused plan c k (wait.Given slots) is h = absurd (h (sym (is .number)))
+wait-refused plan c k (wait.Refused number) is h = (is .number, refl)
 
 kept-by : (o : Outcome) (stream out : List ℕ) → drop (length stream) (bytesBy o stream out) ≡ drop (length stream) out
 kept-by Fine stream out = drop-at stream (drop (length stream) out) (length stream) refl

@@ -5,7 +5,7 @@
 -- Assumes nothing.
 use mathlib.Core.Path.{_≡_, refl, ap}
 use mathlib.Core.List.{List}
-use Prim.Native.Nat.{ℕ, _+_, _-_, _*_, _≤_}
+use Prim.Native.Nat.{ℕ, _+_, _-_, _*_, _≤_, _<_}
 use native.Mathlib.Omega.{arith}
 use lib.ListN.{length}
 use Rattle.frame.specs.Frame.{Frame, IsScaled, Consecutive}
@@ -34,10 +34,11 @@ use Rattle.stream.proofs.WrittenBack.{written-back as stream-written-back, plan
 use Rattle.figures.specs.declared.Figure.{Figure}
 use Rattle.figures.specs.declared.Figures.the-variants as figures
 use Rattle.figures.specs.declared.Wait.the-variants as wait
+use Rattle.figures.specs.Check.{waitCheck}
 use Rattle.figures.specs.Figures.{IsFigures, IsWaitFor}
 use Rattle.figures.proofs.Laws.{frame-of}
 use Rattle.figures.proofs.Questions.{Asked, figure-fine, wait-fine}
-use Rattle.figures.proofs.Answers.{given-fine, slots-fine}
+use Rattle.figures.proofs.Answers.{given-fine, wait-given-fine}
 use Rattle.promises.specs.Trip.{rereadOf}
 use Rattle.promises.proofs.Demand1.{read-number, check-number}
 
@@ -102,18 +103,21 @@ module _ (plan : Plan) (c : ℕ) (figure : Figure) (is : IsFigures plan c (figur
       let right = is .figure (given-fine plan c figure is) in
       rw (right .slots) (right .scaled)
 
+  owns : 0 < figure .slots
+  owns = omega (arith, frame .slots, asked .owns)
+
   -- "The latency given for a drive that owns a slot is exactly the least one that satisfies Definition 1 .. at its
   -- allocated rate": it is L/m, and the rate m/f
   pub latency : (rule : Rule) → Lawful rule
       → IsLatency rule (ownOf plan c) (plan .f) (figure .slots) (figure .scaled) (figure .slots)
-  latency rule law = latency-is rule frame law (asked .checked .bounds .f-high) scaled
+  latency rule law = latency-is rule frame law (asked .checked .bounds .f-high) owns scaled
 
   -- "For m above 0, always f − m ≤ L ≤ m × (f − m)"
   pub limits : (plan .f - figure .slots ≤ figure .scaled)
       × (figure .scaled ≤ figure .slots * (plan .f - figure .slots))
       × (figure .scaled ≤ 1024)
   limits = (
-    scaled-least frame scaled (omega (arith, frame .slots, asked .owns)),
+    scaled-least frame scaled owns,
     scaled-most frame scaled,
     scaled-small frame scaled (asked .checked .bounds .f-high),
   )
@@ -123,20 +127,23 @@ module _ (plan : Plan) (c : ℕ) (figure : Figure) (is : IsFigures plan c (figur
       → figure .scaled ≡ figure .slots * (plan .f - figure .slots)
   consecutive s all = scaled-consecutive frame scaled s all
 
-module _ (plan : Plan) (c k w : ℕ) (is : IsWaitFor plan c k (wait.Slots w)) where
-  -- a request that is k-th in its queue in slot d of a run is served within the wait for k, that slot counted first
-  pub waited : (rule : Rule) (s v : ℕ) (xs : List ℕ) (d : ℕ) → k ≤ pending rule (ownOf plan c) s v xs d
-      → d + w ≤ length xs → k ≤ servedIn rule (ownOf plan c) s v xs d w
-  waited rule s v xs d l fits =
-      let passed = wait-fine plan c k (slots-fine plan c k w is) in
-      let right = is .wait (slots-fine plan c k w is) in
-      let frame = frame-of plan c (figure-fine plan c (passed .0) .checked .bounds .f-low) in
-      served-in-wait rule frame (right .scaled .bounded) s v xs d k w (right .wait) (passed .1) l fits
+module _ (plan : Plan) (c k slots : ℕ) (is : IsWaitFor plan c k (wait.Given slots)) where
+  passed : waitCheck plan c k ≡ Fine
+  passed = wait-given-fine plan c k slots is
 
-  pub wait-limit : w ≤ 16383
+  -- a request that is k-th in its queue in slot d of a run is served within the wait for k, that slot counted first
+  pub served-in-time : (rule : Rule) (s v : ℕ) (xs : List ℕ) (d : ℕ) → k ≤ pending rule (ownOf plan c) s v xs d
+      → d + slots ≤ length xs → k ≤ servedIn rule (ownOf plan c) s v xs d slots
+  served-in-time rule s v xs d l fits =
+      let ok = wait-fine plan c k passed in
+      let right = is .wait passed in
+      let frame = frame-of plan c (ok .asked .checked .bounds .f-low) in
+      served-in-wait rule frame (right .scaled .bounded) s v xs d k slots (right .least) (ok .low) l fits
+
+  pub wait-limit : slots ≤ 16383
   wait-limit =
-      let passed = wait-fine plan c k (slots-fine plan c k w is) in
-      let right = is .wait (slots-fine plan c k w is) in
-      let ok = figure-fine plan c (passed .0) in
-      let most = scaled-most (frame-of plan c (ok .checked .bounds .f-low)) (right .scaled) in
-      wait-small (ok .owns) (ok .checked .bounds .f-high) most (passed .2) (right .wait)
+      let ok = wait-fine plan c k passed in
+      let right = is .wait passed in
+      let bounds = ok .asked .checked .bounds in
+      let most = scaled-most (frame-of plan c (bounds .f-low)) (right .scaled) in
+      wait-small (ok .asked .owns) (bounds .f-high) most (ok .high) (right .least)

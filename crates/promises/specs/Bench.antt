@@ -1,5 +1,6 @@
--- The bench examples of document 01 that are marked P, each an answer that the contracts allow; by `figure-once` and
--- `wait-once` it is the only one. `bench` in proofs/Bench.antt proves the whole table.
+-- The bench examples of document 01 that are marked P, so far P1 to P6, and two more tables: a question about a table,
+-- and the only answer that the contract allows. `bench` in proofs/Bench.antt proves them all.
+use mathlib.Core.Path.{_≡_}
 use mathlib.Core.Bool.{Bool, true, false}
 use mathlib.Core.List.{List, [], _∷_}
 use Prim.Native.Nat.{ℕ}
@@ -9,9 +10,9 @@ use Rattle.records.specs.Pieces.{padded}
 use Rattle.plan.specs.declared.Client.{Client}
 use Rattle.plan.specs.declared.Plan.{Plan}
 use Rattle.plan.specs.Plan.{noClient}
-use Rattle.figures.specs.declared.Figures.the-variants as figures
-use Rattle.figures.specs.declared.Wait.the-variants as wait
-use Rattle.figures.specs.Figures.{IsFigures, IsWaitFor}
+use Rattle.figures.specs.declared.Figures.{Figures}
+use Rattle.figures.specs.declared.Wait.{Wait}
+use Rattle.figures.specs.Figures.{figuresNumber, figureIn, IsFigures, waitNumber, waitIn, IsWaitFor}
 
 -- a frame of f slots in which client 1 owns those of the list
 pub record Table : Type 0 where
@@ -24,8 +25,8 @@ among x [] = false
 among x (y ∷ ys) = pick (eqb x y) true (among x ys)
 
 -- the table as the plan of one client, which requires this much
-unfoldable pub planOf : Client → Table → Plan
-planOf client t =
+unfoldable pub tablePlan : Client → Table → Plan
+tablePlan client t =
     record {
       f = t .f;
       n = 1;
@@ -37,20 +38,23 @@ planOf client t =
 abbrev pub little : Client
 little = record { p = 1; q = 65535; a = 65535; b = 1 }
 
--- a question about a table, and its answer
-pub data Example : Type 0 where
+-- a question about a table's client, with its answer
+pub data Question : Type 0 where
   -- m and L
-  figure : Table → (m L : ℕ) → Example
+  figure : Table → (m L : ℕ) → Question
   -- the wait for k
-  waiting : Table → (k w : ℕ) → Example
+  waiting : Table → (k slots : ℕ) → Question
 
--- the answer is one that the contract allows
-abbrev pub Right : Example → Type 0
-Right (figure t m L) = IsFigures (planOf little t) 1 (figures.Given (record { slots = m; scaled = L }))
-Right (waiting t k w) = IsWaitFor (planOf little t) 1 k (wait.Slots w)
+-- every answer that the contract allows is this one, and no refusal
+abbrev pub Right : Question → Type 0
+Right (figure t m L) =
+    (r : Figures) → IsFigures (tablePlan little t) 1 r
+    → (figuresNumber r ≡ 0) × (figureIn r .slots ≡ m) × (figureIn r .scaled ≡ L)
+Right (waiting t k slots) =
+    (r : Wait) → IsWaitFor (tablePlan little t) 1 k r → (waitNumber r ≡ 0) × (waitIn r ≡ slots)
 
--- all examples of a list are right
-abbrev pub AllRight : List Example → Type 0
+-- all of a list are right
+abbrev pub AllRight : List Question → Type 0
 AllRight [] = Unit {0}
 AllRight (e ∷ es) = Right e × AllRight es
 
@@ -82,8 +86,8 @@ abbrev pub figure3 : Table
 figure3 = record { f = 10; slots = 3 ∷ 6 ∷ 7 ∷ 8 ∷ 9 ∷ [] }
 
 -- P1 to P6, the table of the second slip, and the paper's schedule
-unfoldable pub examples : List Example
-examples =
+unfoldable pub questions : List Question
+questions =
     figure p1 2 8
     ∷ figure p2 2 4
     ∷ figure p3 1 0

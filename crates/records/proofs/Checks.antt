@@ -21,6 +21,9 @@ pub ruleset tests = (lt-ltb, le-ltb, le-leb, lt-leb, eq-eqb, ne-eqb)
 
 -- ---- cases
 
+pub false-true : {A : Type 0} → false ≡ true → A
+false-true h = let z : _≡_ {A = ℕ} 0 1 = cc in absurd (omega arith)
+
 -- below n + 1 is n, or below n
 pub last-or-below : (i n : ℕ) → i < suc n → (i ≡ n) ⊎ (i < n)
 last-or-below i n l = eq-or-lt-of-le (le-of-suc-le-suc l)
@@ -34,7 +37,7 @@ below-or-not x n = below-by x n (ltb x n) refl
 
 between-by : (low x high : ℕ) (b : Bool) → leb low x ≡ b → pick b (leb x high) false ≡ true → (low ≤ x) × (x ≤ high)
 between-by low x high true e g = (leb-true low x e, leb-true x high g)
-between-by low x high false e g = let z : _≡_ {A = ℕ} 0 1 = cc in absurd (omega arith)
+between-by low x high false e g = false-true g
 
 pub between-true : (low x high : ℕ) → between low x high ≡ true → (low ≤ x) × (x ≤ high)
 between-true low x high h = between-by low x high (leb low x) refl h

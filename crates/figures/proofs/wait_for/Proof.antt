@@ -6,7 +6,8 @@ use borrow.Author.Needs.{needs}
 use Rattle.records.specs.Refusal as refusal
 use Rattle.records.proofs.Checks.{range-fine}
 use Rattle.figures.proofs.Questions.{figure-fine}
-use Rattle.figures.proofs.Answers.{given-fine, given-small, wait-refused, wait-given, wait-stopped}
+use Rattle.figures.specs.Check.{mostWaiting}
+use Rattle.figures.proofs.Answers.{given-fine, given-small, waits-refused, waits-given, waits-stopped}
 use Rattle.figures.proofs.wait_for.Statement.{statement}
 use Rattle.figures.proofs.wait_for.Tie as tie
 
@@ -34,7 +35,7 @@ returns c =
     let is = rw (given .given .1) at (figures .ensures) in
     let fine = given-fine (args .plan) (args .client) _ is in
     let refused = sym (c .before .asked .given .1) ∙ range .ensures in
-    wait-refused (args .plan) (args .client) (args .waiting) _ _ fine refused
+    waits-refused (args .plan) (args .client) (args .waiting) _ _ fine refused
 
 enum-told : tie.Need-enum-told
 enum-told c = search needs
@@ -49,14 +50,15 @@ wait-of-requires c κs =
     let fine = given-fine (args .plan) (args .client) _ is in
     let asked = figure-fine (args .plan) (args .client) fine in
     let small = given-small (args .plan) (args .client) _ asked (is .figure fine) in
-    let k = range-fine (args .waiting) 255 refusal.waiting (sym (range .ensures) ∙ c .enum-told .given .1) in
+    let k = range-fine (args .waiting) mostWaiting refusal.waiting (sym (range .ensures) ∙ c .enum-told .given .1) in
     ((asked .checked .bounds .f-high, small .0, small .1), (small .2, k .1))
 
 returns-2 : tie.Need-returns-2
 returns-2 c =
     let figures = c .before .before .before .figure-of in
     let args = c .before .before .before .before .args in
-    wait-stopped (args .plan) (args .client) (args .waiting) _ (rw (c .before .figures .given .1) at (figures .ensures))
+    let refused = rw (c .before .figures .given .1) at (figures .ensures) in
+    waits-stopped (args .plan) (args .client) (args .waiting) _ refused
 
 returns-3 : tie.Need-returns-3
 returns-3 c =
@@ -67,7 +69,7 @@ returns-3 c =
     let is = rw (given .given .1) at (figures .ensures) in
     let fine = given-fine (args .plan) (args .client) _ is in
     let k = sym (range .ensures) ∙ c .before .enum-told .given .1 in
-    wait-given (args .plan) (args .client) (args .waiting) _ _ fine k (is .figure fine) (c .wait-of .ensures)
+    waits-given (args .plan) (args .client) (args .waiting) _ _ fine k (is .figure fine) (c .wait-of .ensures)
 
 pub wait-for-spec : {M : Type 1} → statement M
 wait-for-spec =

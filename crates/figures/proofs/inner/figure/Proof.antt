@@ -1,19 +1,20 @@
--- `figures::inner::figure` meets its contract: m and L are what the two functions say.
+-- `figures::inner::figure` meets its contract: m is the caller's, L is what `scaled` says.
 -- Assumes nothing.
+use mathlib.Core.Path.{_≡_}
 use borrow.Author.Needs.{needs}
+use Rattle.frame.specs.Frame.{slotsOf}
+use Rattle.plan.specs.Plan.{ownOf}
 use Rattle.figures.proofs.inner.figure.Statement.{statement}
 use Rattle.figures.proofs.inner.figure.Tie as tie
-
-slots-requires : tie.Need-slots-requires
-slots-requires c κs = search needs
 
 scaled-requires : tie.Need-scaled-requires
 scaled-requires c κs = search needs
 
 returns : tie.Need-returns
 returns c =
-    let m = c .before .slots .ensures in
+    let args = c .before .args in
+    let m : args .m ≡ slotsOf (ownOf (args .plan) (args .client)) (args .plan .f) = search needs in
     record { slots = m; scaled = rw m at (c .scaled .ensures) }
 
 pub figure-spec : {M : Type 1} → statement M
-figure-spec = tie.close (tie.spec slots-requires scaled-requires returns)
+figure-spec = tie.close (tie.spec scaled-requires returns)

@@ -11,8 +11,9 @@ use lib.ListN.{getD}
 use Rattle.frame.specs.Frame.{within}
 use Rattle.frame.specs.Largest.{largest, lack}
 use Rattle.frame.proofs.Scaled.{largest-on}
+use Rattle.plan.specs.Plan.{ownIn}
 use Rattle.plan.proofs.Laws.{one-or-none}
-use Rattle.figures.proofs.Laws.{ownIn, own-in, count-small, place-on, count-on, lack-at}
+use Rattle.figures.proofs.Laws.{count-small, place-on, count-on, lack-at}
 use Rattle.figures.proofs.inner.lack_from.Statement.{statement}
 use Rattle.figures.proofs.inner.lack_from.Tie as tie
 
@@ -101,7 +102,7 @@ returns c =
     let args = c .before .before .before .args in
     let loop = c .before .loop in
     let e : loop .j ≡ args .plan .f = omega arith in
-    rw (e, own-in (args .plan) (args .client)) at (loop .inv .1)
+    rw e at (loop .inv .1)
 
 pub lack-from-spec : {M : Type 1} → statement M
 lack-from-spec =

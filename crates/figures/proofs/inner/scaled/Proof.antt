@@ -8,7 +8,7 @@ use borrow.Author.Needs.{needs}
 use Rattle.frame.specs.Largest.{largest, lack}
 use Rattle.frame.proofs.Scaled.{largest-on}
 use Rattle.plan.specs.Plan.{ownOf}
-use Rattle.figures.proofs.Laws.{slots-small, scaled-all}
+use Rattle.figures.proofs.Laws.{count-small, scaled-all}
 use Rattle.figures.proofs.inner.scaled.Statement.{statement}
 use Rattle.figures.proofs.inner.scaled.Tie as tie
 
@@ -26,7 +26,8 @@ loop-holds c = (omega arith, refl)
 lack-from-requires : tie.Need-lack-from-requires Inv-loop μ-loop
 lack-from-requires c κs =
     let args = c .before .before .args in
-    let m = slots-small (args .plan) (args .client) (omega arith) in
+    let plan = args .plan in
+    let m = count-small (plan .owners) (plan .f) (args .client) 0 (plan .f) (omega arith) in
     (omega arith, omega arith, omega arith)
 
 larger-requires : tie.Need-larger-requires Inv-loop μ-loop

@@ -7,8 +7,9 @@ use borrow.Author.Needs.{needs}
 use lib.Dec.{eqb}
 use lib.ListN.{getD}
 use Rattle.frame.specs.Frame.{within}
+use Rattle.plan.specs.Plan.{ownIn}
 use Rattle.plan.proofs.Laws.{one-or-none}
-use Rattle.figures.proofs.Laws.{ownIn, own-in, count-small, place-first, count-on}
+use Rattle.figures.proofs.Laws.{count-small, place-first, count-on}
 use Rattle.figures.proofs.inner.slots.Statement.{statement}
 use Rattle.figures.proofs.inner.slots.Tie as tie
 
@@ -59,7 +60,7 @@ returns c =
     let args = c .before .before .before .args in
     let loop = c .before .loop in
     let e : loop .at ≡ args .plan .f = omega arith in
-    rw (e, own-in (args .plan) (args .client)) at (loop .inv .1)
+    rw e at (loop .inv .1)
 
 pub slots-spec : {M : Type 1} → statement M
 slots-spec =
