@@ -9,7 +9,7 @@ use native.Mathlib.Omega.{arith}
 use lib.Dec.{eqb}
 use lib.ListN.{getD}
 use Rattle.frame.specs.Frame.{nextOf, within, slotsOf, Frame, IsScaled}
-use Rattle.frame.specs.Largest.{largest, lack, scaledOf}
+use Rattle.frame.specs.Largest.{largest, lack, lackFrom, scaledOf}
 use Rattle.frame.proofs.Within.{next-mod, within-more, within-most}
 use Rattle.frame.proofs.Scaled.{scaled-is}
 use Rattle.records.specs.First.{pick}
@@ -57,7 +57,7 @@ lack-at own f m s j w x e h = h ∙ ap (λ (n : ℕ). m * j - f * n) e
 -- ---- every start and every length tried
 
 pub scaled-all : (plan : Plan) (c m most : ℕ) → 0 < plan .f → m ≡ slotsOf (ownOf plan c) (plan .f)
-    → most ≡ largest (plan .f) (λ s. largest (plan .f) (lack (ownOf plan c) (plan .f) m s))
+    → most ≡ largest (plan .f) (lackFrom (ownOf plan c) (plan .f) m)
     → IsScaled (ownOf plan c) (plan .f) m most
 unfolding scaledOf
 scaled-all plan c m most f> e h = rw (h, e) (scaled-is (frame-of plan c f>))

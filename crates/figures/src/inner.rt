@@ -11,10 +11,10 @@ ghost use mathlib.Core.Path.{_≡_};
 ghost use Prim.Native.Nat.{_-_, _*_, _≤_, _<_, max};
 ghost use lib.Dec.{eqb};
 ghost use Rattle.frame.specs.Frame.{slotsOf, IsScaled, IsWait};
-ghost use Rattle.frame.specs.Largest.{largest, lack};
+ghost use Rattle.frame.specs.Largest.{lackFrom};
 ghost use Rattle.records.specs.First.{pick};
 ghost use Rattle.plan.specs.Plan.{ownOf};
-ghost use Rattle.figures.specs.Check.{askedCheck};
+ghost use Rattle.figures.specs.Check.{askedCheck, mostWaiting};
 ghost use Rattle.figures.specs.Figures.{IsFigure};
 
 // The plan's checks, then 13.
@@ -70,7 +70,7 @@ fn lack_of(f: usize, m: usize, j: usize, w: usize) -> usize
 // The most that a stretch from slot s on lacks, of those shorter than the frame. Its slots w are counted along.
 fn lack_from(plan: Plan, client: usize, m: usize, s: usize) -> usize
     requires { ⌜ (s < plan .f) × (plan .f ≤ 64) × (m ≤ 64) ⌝ }
-    ensures { λ r. ⌜ r ≡ largest (plan .f) (lack (ownOf plan client) (plan .f) m s) ⌝ }
+    ensures { λ r. ⌜ r ≡ lackFrom (ownOf plan client) (plan .f) m s ⌝ }
 {
     let f = plan.f;
     let owners = plan.owners;
@@ -118,7 +118,7 @@ pub fn figure(plan: Plan, client: usize, m: usize) -> Figure
 // The wait for this many requests, from a client's figure: rounded up.
 pub fn wait_of(f: usize, figure: Figure, waiting: usize) -> usize
     requires { ⌜ (f ≤ 64) × (1 ≤ figure .slots) × (figure .slots ≤ 64) ⌝ }
-    requires { ⌜ (figure .scaled ≤ 1024) × (waiting ≤ 255) ⌝ }
+    requires { ⌜ (figure .scaled ≤ 1024) × (waiting ≤ mostWaiting) ⌝ }
     ensures { λ r. ⌜ IsWait f (figure .slots) (figure .scaled) waiting r ⌝ }
 {
     let m = figure.slots;

@@ -1,13 +1,13 @@
 -- The scaled latency L and the wait: there is exactly one of each, and starts and lengths below f suffice to find L.
 -- Assumes nothing.
-use mathlib.Core.Path.{_≡_, ap, subst}
+use mathlib.Core.Path.{_≡_, refl, ap, subst}
 use Prim.Native.Nat.{ℕ, zero, suc, _+_, _-_, _*_, _/_, _%_, _≤_, _<_, max}
 use native.Mathlib.Nat.{div-add-mod', mod-lt, lt-div-mul-add, div-lt-iff-lt-mul}
 use native.Mathlib.Decide.{decLe, ℕ-discrete}
 use native.Mathlib.Numerals.{add-one}
 use native.Mathlib.Omega.{arith}
 use Rattle.frame.specs.Frame.{within, Frame, Bounded, Reached, IsScaled, IsWait}
-use Rattle.frame.specs.Largest.{largest, lack, scaledOf, waitOf}
+use Rattle.frame.specs.Largest.{largest, lack, lackFrom, scaledOf, waitOf}
 use Rattle.frame.proofs.Within.{within-split}
 
 -- ---- "Since a whole frame adds m × f − f × m = 0, j below f suffices"
@@ -75,21 +75,28 @@ largest-reached (suc n) g h = by (decLe (largest n g) (g n)) (largest-reached n 
     by (no l) below = let r = below (omega arith) in (r .0, omega (arith, r .1), omega (arith, r .2))
 
 -- one more: x, and r is the larger
-pub largest-on : (g : ℕ → ℕ) (n most x r : ℕ) → most ≡ largest n g → x ≡ g n → r ≡ max most x → r ≡ largest (n + 1) g
+pub largest-on : (g : ℕ → ℕ) (n most x r : ℕ) → most ≡ largest n g → x ≡ g n → r ≡ max most x
+    → r ≡ largest (n + 1) g
 unfolding largest
 largest-on g n most x r e h k = rw (add-one, ← e, ← h) k
 
 -- ---- there is an L
 
+-- every length below f is tried
+lack-above : (own : ℕ → ℕ) (f m s j : ℕ) → j < f → lack own f m s j ≤ lackFrom own f m s
+unfolding lackFrom
+lack-above own f m s j l = largest-above _ (lack own f m s) j (omega arith)
+
+lack-reached : (own : ℕ → ℕ) (f m s : ℕ) → 0 < lackFrom own f m s → (j : ℕ) × (lackFrom own f m s ≡ lack own f m s j)
+unfolding lackFrom
+lack-reached own f m s h = let r = largest-reached _ (lack own f m s) h in (r .0, r .2)
+
 module _ {own : ℕ → ℕ} {f m : ℕ} (frame : Frame own f m) where
   scaled-bounded : Bounded own f m (scaledOf own f m)
   unfolding scaledOf lack
   scaled-bounded =
-      below-suffice frame (λ s j s< j<. omega (
-        arith,
-        largest-above f (λ s. largest f (lack own f m s)) s s<,
-        largest-above f (lack own f m s) j j<,
-      ))
+      below-suffice frame (λ s j s< j<.
+      omega (arith, largest-above f (lackFrom own f m) s s<, lack-above own f m s j j<))
 
   scaled-reached : Reached own f m (scaledOf own f m)
   unfolding scaledOf lack within
@@ -97,9 +104,9 @@ module _ {own : ℕ → ℕ} {f m : ℕ} (frame : Frame own f m) where
     where
       by : Dec (0 < scaledOf own f m) → Reached own f m (scaledOf own f m)
       by (yes l) =
-          let s = largest-reached f (λ s. largest f (lack own f m s)) l in
-          let j = largest-reached f (lack own f m (s .0)) (omega (arith, s .2)) in
-          record { start = s .0; long = j .0; there = omega (arith, s .2, j .2) }
+          let s = largest-reached f (lackFrom own f m) l in
+          let j = lack-reached own f m (s .0) (omega (arith, s .2)) in
+          record { start = s .0; long = j .0; there = omega (arith, s .2, j .1) }
       by (no l) = record { start = 0; long = 0; there = omega arith }
 
   pub scaled-is : IsScaled own f m (scaledOf own f m)
@@ -107,13 +114,17 @@ module _ {own : ℕ → ℕ} {f m : ℕ} (frame : Frame own f m) where
 
 -- ---- the wait
 
+-- a/m rounded down, where a is m − 1 above L + k × f, is that rounded up
+pub wait-by : (f m L k a : ℕ) → 0 < m → a ≡ L + k * f + (m - 1) → IsWait f m L k (a / m)
+wait-by f m L k a m> e =
+    record {
+      enough = omega (arith, e, lt-div-mul-add {a = a} m>);
+      least = λ j h. omega (arith, div-lt-iff-lt-mul {x = a} {y = j + 1} m> .1 (omega (arith, e, h)));
+    }
+
 pub wait-is : (f m L k : ℕ) → 0 < m → IsWait f m L k (waitOf f m L k)
 unfolding waitOf
-wait-is f m L k m> =
-    record {
-      enough = omega (arith, lt-div-mul-add {a = L + k * f + (m - 1)} m>);
-      least = λ j h. omega (arith, div-lt-iff-lt-mul {x = L + k * f + (m - 1)} {y = j + 1} m> .1 (omega arith));
-    }
+wait-is f m L k m> = wait-by f m L k (L + k * f + (m - 1)) m> refl
 
 pub wait-one : {f m L k r r′ : ℕ} → IsWait f m L k r → IsWait f m L k r′ → r ≡ r′
 wait-one {f} {m} {L} {k} {r} {r′} a b = omega (arith, a .least r′ (b .enough), b .least r (a .enough))

@@ -9,7 +9,7 @@ use native.Mathlib.Nat.{add-mod-right}
 use native.Mathlib.Omega.{arith}
 use lib.ListN.{take}
 use Rattle.frame.specs.Frame.{within, Frame, IsScaled}
-use Rattle.frame.specs.Largest.{largest, lack, scaledOf}
+use Rattle.frame.specs.Largest.{largest, lack, lackFrom, scaledOf}
 use Rattle.frame.specs.Queue.{oneSlot, total, taken, served}
 use Rattle.frame.specs.Service.{Guaranteed}
 use Rattle.frame.proofs.Scaled.{scaled-is}
@@ -26,7 +26,7 @@ unfolding within
 frame = record { f> = omega arith; most = λ s. omega arith; round = λ s. rw (add-mod-right s 3); slots = refl }
 
 pub starts-scaled : IsScaled own 3 2 2
-unfolding scaledOf largest lack within
+unfolding scaledOf lackFrom largest lack within
 starts-scaled = scaled-is frame
 
 -- busy, if the arrivals of slot i count after i slots

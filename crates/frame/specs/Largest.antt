@@ -12,9 +12,13 @@ largest (suc n) g = max (largest n g) (g n)
 unfoldable pub lack : (ℕ → ℕ) → ℕ → ℕ → ℕ → ℕ → ℕ
 lack own f m s j = m * j - f * within own s j
 
--- L, from the starts and the lengths below f
+-- the largest of those from s, over the lengths below f
+unfoldable pub lackFrom : (ℕ → ℕ) → ℕ → ℕ → ℕ → ℕ
+lackFrom own f m s = largest f (lack own f m s)
+
+-- L, the largest of these over the starts below f
 unfoldable pub scaledOf : (ℕ → ℕ) → ℕ → ℕ → ℕ
-scaledOf own f m = largest f (λ s. largest f (lack own f m s))
+scaledOf own f m = largest f (lackFrom own f m)
 
 -- the wait for k: (L + k × f)/m rounded up
 unfoldable pub waitOf : ℕ → ℕ → ℕ → ℕ → ℕ

@@ -10,7 +10,7 @@ use native.Mathlib.Omega.{arith}
 use lib.Dec.{eqb, leb}
 use borrow.Author.Tests.{eqb-true, leb-true}
 use Rattle.frame.specs.Frame.{slotsOf, within}
-use Rattle.frame.specs.Largest.{largest, lack, scaledOf, waitOf}
+use Rattle.frame.specs.Largest.{largest, lack, lackFrom, scaledOf, waitOf}
 use Rattle.frame.proofs.Scaled.{scaled-is, wait-is}
 use Rattle.records.specs.Refusal as refusal
 use Rattle.records.specs.First.{pick}
@@ -199,5 +199,5 @@ all-right [] h = tt
 all-right (q ∷ qs) h = let g = both (test q) (testAll qs) h in (right q (g .0), all-right qs (g .1))
 
 pub bench : AllRight questions
-unfolding questions test slotAt scaledOf largest lack within waitOf
+unfolding questions test slotAt scaledOf lackFrom largest lack within waitOf
 bench = all-right questions refl

@@ -22,7 +22,8 @@ pub none : (out : List ℕ) (at : ℕ) → Put out at [] out at
 none out at = record { place = sym (add-zero at); stored = refl }
 
 -- bytes put, and then others at the next place
-pub then : {o₀ o₁ o₂ s t : List ℕ} {a₀ a₁ a₂ : ℕ} → Put o₀ a₀ s o₁ a₁ → Put o₁ a₁ t o₂ a₂ → Put o₀ a₀ (s ++ t) o₂ a₂
+pub then : {o₀ o₁ o₂ s t : List ℕ} {a₀ a₁ a₂ : ℕ} → Put o₀ a₀ s o₁ a₁ → Put o₁ a₁ t o₂ a₂
+    → Put o₀ a₀ (s ++ t) o₂ a₂
 then {o₀} {o₁} {o₂} {s} {t} {a₀} {a₁} {a₂} p q =
     let e = p .place in
     let f = q .place in
@@ -49,6 +50,7 @@ pub put-length : {o₀ o₁ t : List ℕ} {a r : ℕ} → Put o₀ a t o₁ r �
 put-length {o₀} {o₁} {t} {a} p = ap length (p .stored) ∙ length-sets o₀ a t
 
 -- from the front, with room: the bytes, and what stood past them
-pub put-front : {o₀ o₁ t : List ℕ} {r : ℕ} → Put o₀ 0 t o₁ r → length t ≤ length o₀ → o₁ ≡ t ++ drop (length t) o₀
+pub put-front : {o₀ o₁ t : List ℕ} {r : ℕ} → Put o₀ 0 t o₁ r → length t ≤ length o₀
+    → o₁ ≡ t ++ drop (length t) o₀
 put-front {o₀} {o₁} {t} p h =
     p .stored ∙ sets-eq t o₀ 0 (omega arith) ∙ ap (λ (k : ℕ). t ++ drop k o₀) (zero-add (length t))

@@ -9,7 +9,7 @@ use borrow.Author.Needs.{needs}
 use lib.Dec.{eqb}
 use lib.ListN.{getD}
 use Rattle.frame.specs.Frame.{within}
-use Rattle.frame.specs.Largest.{largest, lack}
+use Rattle.frame.specs.Largest.{largest, lack, lackFrom}
 use Rattle.frame.proofs.Scaled.{largest-on}
 use Rattle.plan.specs.Plan.{ownIn}
 use Rattle.plan.proofs.Laws.{one-or-none}
@@ -98,6 +98,7 @@ loop-again c =
     )
 
 returns : tie.Need-returns Inv-loop μ-loop
+unfolding lackFrom
 returns c =
     let args = c .before .before .before .args in
     let loop = c .before .loop in

@@ -2,10 +2,10 @@
 -- lacks, and starts and lengths below f suffice.
 -- Assumes nothing.
 use mathlib.Core.Path.{_≡_, refl}
-use Prim.Native.Nat.{ℕ, _-_, _≤_}
+use Prim.Native.Nat.{_-_, _≤_}
 use native.Mathlib.Omega.{arith}
 use borrow.Author.Needs.{needs}
-use Rattle.frame.specs.Largest.{largest, lack}
+use Rattle.frame.specs.Largest.{largest, lackFrom}
 use Rattle.frame.proofs.Scaled.{largest-on}
 use Rattle.plan.specs.Plan.{ownOf}
 use Rattle.figures.proofs.Laws.{count-small, scaled-all}
@@ -14,7 +14,7 @@ use Rattle.figures.proofs.inner.scaled.Tie as tie
 
 abbrev Inv-loop : tie.InvT-loop
 Inv-loop plan client m f most₀ s₀ most s =
-    (s ≤ f) × (most ≡ largest s (λ t. largest f (lack (ownOf plan client) f m t)))
+    (s ≤ f) × (most ≡ largest s (lackFrom (ownOf plan client) f m))
 
 abbrev μ-loop : tie.MeasureT-loop
 μ-loop plan client m f most₀ s₀ most s = f - s
@@ -44,7 +44,7 @@ loop-again c =
     let args = c .before .before .before .before .args in
     let loop = c .before .before .before .loop in
     let f = args .plan .f in
-    let from : ℕ → ℕ = λ s. largest f (lack (ownOf (args .plan) (args .client)) f (args .m) s) in (
+    let from = lackFrom (ownOf (args .plan) (args .client)) f (args .m) in (
       omega arith,
       largest-on from (loop .s) (loop .most) _ _ (loop .inv .1) (c .before .lack-from .ensures) (c .larger .ensures),
     )

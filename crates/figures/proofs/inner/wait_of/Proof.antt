@@ -1,11 +1,10 @@
--- `figures::inner::wait_of` meets its contract: it is the wait as `frame` works it out.
+-- `figures::inner::wait_of` meets its contract: what is divided is m − 1 above L + k × f.
 -- Assumes nothing.
 use Prim.Native.Nat.{ℕ, _*_, _≤_}
 use native.Mathlib.Nat.{mul-le-mul}
 use native.Mathlib.Omega.{arith}
 use borrow.Author.Needs.{needs}
-use Rattle.frame.specs.Largest.{waitOf}
-use Rattle.frame.proofs.Scaled.{wait-is}
+use Rattle.frame.proofs.Scaled.{wait-by}
 use Rattle.figures.proofs.inner.wait_of.Statement.{statement}
 use Rattle.figures.proofs.inner.wait_of.Tie as tie
 
@@ -34,11 +33,10 @@ div-result : tie.Need-div-result
 div-result c = search needs
 
 returns : tie.Need-returns
-unfolding waitOf
 returns c =
     let args = c .before .args in
     let figure = args .figure in
-    wait-is (args .f) (figure .slots) (figure .scaled) (args .waiting) (omega arith)
+    wait-by (args .f) (figure .slots) (figure .scaled) (args .waiting) _ (omega arith) (omega arith)
 
 pub wait-of-spec : {M : Type 1} → statement M
 wait-of-spec = tie.close (tie.spec mul-due add-due sub-result add-result div-result returns)
