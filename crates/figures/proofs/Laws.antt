@@ -4,7 +4,7 @@
 use mathlib.Core.Path.{_≡_, refl, sym, ap, _∙_}
 use mathlib.Core.List.{List}
 use Prim.Native.Nat.{ℕ, _+_, _-_, _*_, _%_, _≤_, _<_}
-use native.Mathlib.Nat.{zero-add, add-assoc, mod-eq-of-lt, mul-le-mul}
+use native.Mathlib.Nat.{zero-add, add-zero, add-assoc, mod-lt, mod-eq-of-lt, mul-le-mul}
 use native.Mathlib.Omega.{arith}
 use lib.Dec.{eqb}
 use lib.ListN.{getD}
@@ -35,6 +35,9 @@ product-small a b l h = mul-le-mul l h
 pub count-small : (owners : List ℕ) (f c s j : ℕ) → j ≤ 64 → within (ownIn owners f c) s j ≤ 64
 count-small owners f c s j l = omega (arith, within-most (ownIn owners f c) (own-most owners f c) s j)
 
+pub slots-small : (plan : Plan) (c m : ℕ) → m ≡ slotsOf (ownOf plan c) (plan .f) → plan .f ≤ 64 → m ≤ 64
+slots-small plan c m e l = omega (arith, count-small (plan .owners) (plan .f) c 0 (plan .f) l)
+
 -- ---- one slot on
 
 pub count-on : (owners : List ℕ) (f c s j w at o : ℕ) → w ≡ within (ownIn owners f c) s j → at ≡ (s + j) % f
@@ -46,6 +49,13 @@ count-on owners f c s j w at o e p h =
 
 pub place-first : (f at : ℕ) → at < f → at ≡ (0 + at) % f
 place-first f at l = sym (ap (λ (x : ℕ). x % f) (zero-add at) ∙ mod-eq-of-lt l)
+
+pub place-zero : (f s : ℕ) → s < f → s ≡ (s + 0) % f
+place-zero f s l = sym (ap (λ (x : ℕ). x % f) (add-zero s) ∙ mod-eq-of-lt l)
+
+-- the place is one of the frame
+pub in-frame : (f s j at : ℕ) → s < f → at ≡ (s + j) % f → at < f
+in-frame f s j at l e = let f> : 0 < f = omega arith in omega (arith, mod-lt (s + j) f>)
 
 pub place-on : (f s j at : ℕ) → at ≡ (s + j) % f → nextOf f at ≡ (s + (j + 1)) % f
 place-on f s j at e = ap (nextOf f) e ∙ next-mod f (s + j) ∙ ap (λ (x : ℕ). x % f) (add-assoc s j 1)

@@ -11,7 +11,7 @@ use native.Mathlib.Omega.{arith}
 use lib.Dec.{ltb, leb}
 use lib.ListN.{length}
 use borrow.Author.Tests.{ltb-true, ltb-false, leb-true, eqb-true, lt-ltb, le-ltb, le-leb, lt-leb, eq-eqb, ne-eqb}
-use Rattle.records.specs.First.{pick, between, need, rangeCheck, orElse, firstOf}
+use Rattle.records.specs.First.{pick, between, need, rangeCheck, orElse, firstOf, RefusedBy}
 use Rattle.records.specs.Record.{recordCheck, overCheck}
 use Rattle.records.specs.declared.Outcome.{Outcome}
 use Rattle.records.specs.declared.Outcome.the-variants.{Fine, Refused}
@@ -62,6 +62,10 @@ range-pass x high k l h = simp (le-leb 1 x l, le-leb x high h)
 pub both-fine : (x y : Outcome) → orElse x y ≡ Fine → (x ≡ Fine) × (y ≡ Fine)
 both-fine Fine y h = (refl, h)
 both-fine (Refused k offset) y h = not-fine h
+
+-- v, what a check found, is a refusal
+pub refuses : {v x : Outcome} {k offset : ℕ} → v ≡ x → v ≡ Refused k offset → RefusedBy x k
+refuses {v} {x} {k} {offset} e h = let q : x ≡ Refused k offset = sym e ∙ h in rw q refl
 
 -- v, what the first check found, decides where it refuses
 pub stops : {v x : Outcome} {k offset : ℕ} (y : Outcome) → v ≡ x → v ≡ Refused k offset → Refused k offset ≡ orElse x y

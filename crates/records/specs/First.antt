@@ -45,6 +45,11 @@ abbrev pub offsetOf : Outcome → ℕ
 offsetOf Fine = 0
 offsetOf (Refused k offset) = offset
 
+-- an outcome that refuses, with this number
+abbrev pub RefusedBy : Outcome → ℕ → Type 0
+RefusedBy Fine number = ⊥
+RefusedBy (Refused k offset) number = number ≡ k
+
 -- "Each refusal has its number", 1 to most
 abbrev pub Numbered : ℕ → Outcome → Type 0
 Numbered most o = (o ≡ Fine) ⊎ ((1 ≤ numberOf o) × (numberOf o ≤ most))

@@ -1,9 +1,8 @@
 -- `figures::inner::lack_from` meets its contract: after j lengths the loop has the most that one of them lacks, the
 -- client's slots in a stretch of j, and the place in the frame where it ends.
 -- Assumes nothing.
-use mathlib.Core.Path.{_≡_, refl, sym, _∙_}
-use Prim.Native.Nat.{ℕ, _+_, _-_, _%_, _≤_, _<_}
-use native.Mathlib.Nat.{mod-eq-of-lt, mod-lt, add-zero}
+use mathlib.Core.Path.{_≡_, refl, _∙_}
+use Prim.Native.Nat.{_+_, _-_, _%_, _≤_}
 use native.Mathlib.Omega.{arith}
 use borrow.Author.Needs.{needs}
 use lib.Dec.{eqb}
@@ -13,7 +12,7 @@ use Rattle.frame.specs.Largest.{largest, lack, lackFrom}
 use Rattle.frame.proofs.Scaled.{largest-on}
 use Rattle.plan.specs.Plan.{ownIn}
 use Rattle.plan.proofs.Laws.{one-or-none}
-use Rattle.figures.proofs.Laws.{count-small, place-on, count-on, lack-at}
+use Rattle.figures.proofs.Laws.{count-small, count-on, place-zero, in-frame, place-on, lack-at}
 use Rattle.figures.proofs.inner.lack_from.Statement.{statement}
 use Rattle.figures.proofs.inner.lack_from.Tie as tie
 
@@ -27,16 +26,11 @@ Inv-loop client m s f owners most₀ w₀ at₀ j₀ most w at j =
 abbrev μ-loop : tie.MeasureT-loop
 μ-loop client m s f owners most₀ w₀ at₀ j₀ most w at j = f - j
 
--- the place is one of the frame
-in-frame : (f s j at : ℕ) → s < f → at ≡ (s + j) % f → at < f
-in-frame f s j at l e = let f> : 0 < f = omega arith in omega (arith, mod-lt (s + j) f>)
-
 loop-holds : tie.Need-loop-holds Inv-loop μ-loop
 unfolding largest within
 loop-holds c =
     let args = c .before .args in
-    let e : (args .s + 0) % args .plan .f ≡ args .s = rw add-zero (mod-eq-of-lt (omega arith)) in
-    (omega arith, refl, refl, sym e)
+    (omega arith, refl, refl, place-zero (args .plan .f) (args .s) (omega arith))
 
 lack-of-requires : tie.Need-lack-of-requires Inv-loop μ-loop
 lack-of-requires c κs =

@@ -1,0 +1,29 @@
+-- `judge::inner::has_rate` meets its contract: it is the rule's own comparison.
+-- Assumes nothing.
+use mathlib.Core.Path.{_≡_}
+use Prim.Native.Nat.{ℕ, _*_}
+use native.Mathlib.Nat.{mul-comm}
+use lib.Dec.{leb}
+use borrow.Author.Needs.{needs}
+use Rattle.plan.specs.declared.Client.{Client}
+use Rattle.judge.specs.Rules.{enough}
+use Rattle.judge.proofs.inner.has_rate.Statement.{statement}
+use Rattle.judge.proofs.inner.has_rate.Tie as tie
+
+times-requires : tie.Need-times-requires
+times-requires c κs = search needs
+
+times-requires-2 : tie.Need-times-requires-2
+times-requires-2 c κs = search needs
+
+compared : (x : Client) (f m due got : ℕ) → due ≡ f * x .p → got ≡ m * x .q → leb due got ≡ enough x f m
+unfolding enough
+compared x f m due got e h = rw (e, h, mul-comm f (x .p))
+
+returns : tie.Need-returns
+returns c =
+    let args = c .before .before .args in
+    compared (args .required) (args .f) (args .m) _ _ (c .before .times .ensures .0) (c .times2 .ensures .0)
+
+pub has-rate-spec : {M : Type 1} → statement M
+has-rate-spec = tie.close (tie.spec times-requires times-requires-2 returns)

@@ -1,0 +1,54 @@
+-- `judge::inner::in_time` meets its contract: it is the rule's own comparison.
+-- Assumes nothing.
+use mathlib.Core.Path.{_≡_}
+use Prim.Native.Nat.{ℕ, _+_, _*_}
+use native.Mathlib.Nat.{mul-comm}
+use native.Mathlib.Omega.{arith}
+use lib.Dec.{leb}
+use borrow.Author.Needs.{needs}
+use Rattle.plan.specs.declared.Client.{Client}
+use Rattle.figures.proofs.Laws.{product-small}
+use Rattle.judge.specs.Rules.{covers}
+use Rattle.judge.proofs.inner.in_time.Statement.{statement}
+use Rattle.judge.proofs.inner.in_time.Tie as tie
+
+mul-times : tie.Need-mul-times
+mul-times c = let a = c .args in omega (arith, product-small (a .m) (a .j) (omega arith) (omega arith))
+
+times-requires : tie.Need-times-requires
+times-requires c κs = let a = c .args in omega (arith, product-small (a .m) (a .j) (omega arith) (omega arith))
+
+times-requires-2 : tie.Need-times-requires-2
+times-requires-2 c κs = search needs
+
+mul-times-2 : tie.Need-mul-times-2
+mul-times-2 c = let a = c .before .before .args in omega (arith, product-small (a .f) (a .w) (omega arith) (omega arith))
+
+times-requires-3 : tie.Need-times-requires-3
+times-requires-3 c κs = let a = c .before .before .args in omega (arith, product-small (a .f) (a .w) (omega arith) (omega arith))
+
+add-result : tie.Need-add-result
+add-result c = search needs
+
+compared : (x : Client) (f m j w due late got : ℕ) → due ≡ m * j * x .b → late ≡ m * x .a → got ≡ f * w * x .b
+    → leb due (late + got) ≡ covers x f m j w
+unfolding covers
+compared x f m j w due late got d l g = rw (d, l, g, mul-comm m (x .a))
+
+returns : tie.Need-returns
+returns c =
+    let args = c .before .before .before .args in
+    compared (args .required) (args .f) (args .m) (args .j) (args .w) _ _ _ (c .before .before .times .ensures .0)
+    (c .before .times2 .ensures .0) (c .times3 .ensures .0)
+
+pub in-time-spec : {M : Type 1} → statement M
+in-time-spec =
+    tie.close
+    (tie.spec
+    mul-times
+    times-requires
+    times-requires-2
+    mul-times-2
+    times-requires-3
+    add-result
+    returns)

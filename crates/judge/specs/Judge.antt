@@ -1,0 +1,82 @@
+-- Which plans are accepted, where judging stops, and what the answers' cases mean (document 01, Judging and searching).
+use mathlib.Core.Path.{_≡_}
+use mathlib.Core.Bool.{false}
+use mathlib.Core.List.{List, [], _∷_}
+use Prim.Native.Nat.{ℕ, _+_, _-_, _<_, _≤_}
+use Rattle.records.specs.First.{RefusedBy}
+use Rattle.records.specs.declared.Outcome.the-variants.{Fine}
+use Rattle.plan.specs.declared.Plan.{Plan}
+use Rattle.plan.specs.Plan.{clientOf, ownOf}
+use Rattle.plan.specs.Check.{planCheck}
+use Rattle.figures.specs.Check.{askedCheck}
+use Rattle.judge.specs.declared.Verdict.{Verdict}
+use Rattle.judge.specs.declared.Verdict.the-variants.{Ok, Rate, Late}
+use Rattle.judge.specs.declared.Judgement.{Judgement}
+use Rattle.judge.specs.declared.Judged.{Judged}
+use Rattle.judge.specs.declared.Judged.the-variants as judged
+use Rattle.judge.specs.declared.Verdicts.{Verdicts}
+use Rattle.judge.specs.declared.Verdicts.the-variants as verdicts
+use Rattle.judge.specs.Rules.{hasRate, IsOk, IsLate, IsVerdict}
+
+-- ---- a plan
+
+-- client i + 1 of a plan is `ok`
+abbrev pub ClientOk : Plan → ℕ → Type 0
+ClientOk plan i = IsOk (clientOf plan i) (ownOf plan (i + 1)) (plan .f)
+
+-- clients from + 1 to `to` are
+pub record AllOk (plan : Plan) (from to : ℕ) : Type 0 where
+  pub each : (i : ℕ) → from ≤ i → i < to → ClientOk plan i
+
+-- "A plan is accepted exactly when all are `ok`"
+abbrev pub Accepted : Plan → Type 0
+Accepted plan = AllOk plan 0 (plan .n)
+
+-- "judging stops at the first client": of those, client c is not `ok` in the way that P says, and all before it are
+pub record First (plan : Plan) (from to c : ℕ) (P : ℕ → Type 0) : Type 0 where
+  pub place : ℕ
+  pub client : c ≡ place + 1
+  pub low : from ≤ place
+  pub high : place < to
+  pub before : AllOk plan from place
+  pub fails : P place
+
+-- judging clients from + 1 to `to` "names client, verdict and, if `late`, that stretch's start and length (0 and 0
+-- otherwise ..)"; where all are `ok` the client is 0
+abbrev pub JudgedAs : Plan → ℕ → ℕ → Verdict → (c s j : ℕ) → Type 0
+JudgedAs plan from to Ok c s j = AllOk plan from to × (c ≡ 0) × (s ≡ 0) × (j ≡ 0)
+JudgedAs plan from to Rate c s j =
+    First plan from to c (λ i. hasRate (clientOf plan i) (ownOf plan (i + 1)) (plan .f) ≡ false) × (s ≡ 0) × (j ≡ 0)
+JudgedAs plan from to Late c s j =
+    First plan from to c (λ i. IsLate (clientOf plan i) (ownOf plan (i + 1)) (plan .f) s j)
+
+abbrev pub IsJudgement : Plan → ℕ → ℕ → Judgement → Type 0
+IsJudgement plan from to r = JudgedAs plan from to (r .verdict) (r .client) (r .start) (r .length)
+
+-- what judging a plan answers
+abbrev pub IsJudged : Plan → Judged → Type 0
+IsJudged plan (judged.Given found) = (planCheck plan ≡ Fine) × IsJudgement plan 0 (plan .n) found
+IsJudged plan (judged.Refused number) = RefusedBy (planCheck plan) number
+
+-- an answer's number, 0 where nothing is refused
+abbrev pub judgedNumber : Judged → ℕ
+judgedNumber (judged.Given found) = 0
+judgedNumber (judged.Refused number) = number
+
+-- an answer's client, start and length: "A refusal .. returns its number with all other results 0"
+abbrev pub judgedValues : Judged → List ℕ
+judgedValues (judged.Given found) = found .client ∷ found .start ∷ found .length ∷ []
+judgedValues (judged.Refused number) = 0 ∷ 0 ∷ 0 ∷ []
+
+-- ---- one client
+
+-- what is answered of client c: the plan's checks, 13, then its verdict; a client without slots has one, too
+abbrev pub IsVerdictOf : Plan → ℕ → Verdicts → Type 0
+IsVerdictOf plan c (verdicts.Given verdict) =
+    (askedCheck plan c ≡ Fine) × IsVerdict (clientOf plan (c - 1)) (ownOf plan c) (plan .f) verdict
+IsVerdictOf plan c (verdicts.Refused number) = RefusedBy (askedCheck plan c) number
+
+-- an answer's number, 0 where nothing is refused
+abbrev pub verdictNumber : Verdicts → ℕ
+verdictNumber (verdicts.Given verdict) = 0
+verdictNumber (verdicts.Refused number) = number

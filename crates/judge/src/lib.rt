@@ -1,0 +1,57 @@
+// Judging: a client's verdict, whether a plan is accepted, and else the first client and its first stretch that show why
+// not. Every plan and number gets an answer; `inner` has the functions for callers that have checked their plan.
+pub mod inner; // inner.rt
+
+use figures::inner::check_asked;
+use plan::Plan;
+use records::Outcome;
+ghost use Rattle.judge.specs.Judge.{IsJudged, IsVerdictOf};
+
+// What judging says of a client.
+pub enum Verdict {
+    Ok,
+    Rate,
+    Late,
+}
+
+// The first client that is not ok, its verdict and, if late, its first stretch that is; 0 and Ok where all are ok.
+pub struct Judgement {
+    pub client: usize,
+    pub verdict: Verdict,
+    pub start: usize,
+    pub length: usize,
+}
+
+// Where judging a plan stopped, or the refusal's number.
+pub enum Judged {
+    Given(Judgement),
+    Refused(u8),
+}
+
+// A client's verdict, or the refusal's number.
+pub enum Verdicts {
+    Given(Verdict),
+    Refused(u8),
+}
+
+// Judges a plan: the plan's refusals, then its clients one by one.
+pub fn judge(plan: Plan) -> Judged
+    ensures { λ r. ⌜ IsJudged plan r ⌝ }
+{
+    let checked = plan::check(plan);
+    if let Outcome::Refused(number, offset) = checked {
+        return Judged::Refused(number);
+    }
+    Judged::Given(inner::first_failure(plan, 0, plan.n))
+}
+
+// The verdict of one client: the plan's refusals, then 13.
+pub fn verdict_of(plan: Plan, client: usize) -> Verdicts
+    ensures { λ r. ⌜ IsVerdictOf plan client r ⌝ }
+{
+    let asked = check_asked(plan, client);
+    if let Outcome::Refused(number, offset) = asked {
+        return Verdicts::Refused(number);
+    }
+    Verdicts::Given(inner::verdict(plan, client))
+}
