@@ -1,9 +1,9 @@
--- Laws of the two rules. The rule of one stretch has one that judging rests on, `covers-round`: a whole frame more keeps
--- a stretch in time. So starts and lengths below f suffice. And with L in place of its stretches a client is in time
--- when L × b ≤ a × m, so that the verdict and the figures agree.
+-- Laws of the two rules. Judging rests on one law of the rule of one stretch, `covers-round`: a whole frame more keeps
+-- a stretch in time. So starts and lengths below f suffice. And every stretch is in time exactly when L × b ≤ a × m,
+-- so that the verdict and the figures agree.
 -- Assumes nothing.
 use mathlib.Core.Path.{_≡_, refl, ap, subst}
-use mathlib.Core.Bool.{Bool, true, false}
+use mathlib.Core.Bool.{Bool, true}
 use Prim.Native.Nat.{ℕ, zero, suc, _+_, _*_, _/_, _%_, _≤_, _<_}
 use native.Mathlib.Nat.{mod-add-div', mod-lt, suc-mul, mul-le-mul-right}
 use native.Mathlib.Decide.{ℕ-discrete}

@@ -2,19 +2,16 @@
 -- and a client's slots repeat with the frame.
 -- Assumes nothing.
 use mathlib.Core.Path.{_≡_, refl, ap, sym}
-use mathlib.Core.Bool.{Bool, true, false}
 use mathlib.Core.List.{List}
 use Prim.Native.Nat.{ℕ, _+_, _%_, _≤_, _<_}
 use native.Mathlib.Nat.{add-mod-right, mod-lt}
-use native.Mathlib.Omega.{arith}
 use lib.Dec.{eqb}
 use lib.ListN.{getD}
 use borrow.Author.Tests.{leb-true, le-leb}
 use Rattle.records.specs.Refusal as refusal
-use Rattle.records.specs.First.{pick}
 use Rattle.records.specs.declared.Outcome.the-variants.{Fine}
 use Rattle.records.proofs.Checks.{between-true, both-fine, need-fine, range-fine, range-pass, first-fine, first-all}
-use Rattle.records.proofs.Checks.{first-same}
+use Rattle.records.proofs.Checks.{first-same, one-or-none}
 use Rattle.records.proofs.Lists.{get-padded, padded-same}
 use Rattle.plan.specs.declared.Client.{Client}
 use Rattle.plan.specs.declared.Plan.{Plan}
@@ -132,10 +129,6 @@ same-check plan other s =
     rw (c, o, s .frame, s .count)
 
 -- ---- a client's slots
-
-pub one-or-none : (b : Bool) → pick b 1 0 ≤ 1
-one-or-none true = omega arith
-one-or-none false = omega arith
 
 pub own-most : (owners : List ℕ) (f c s : ℕ) → ownIn owners f c s ≤ 1
 unfolding ownIn

@@ -17,17 +17,22 @@ use Rattle.plan.specs.Plan.{clientOf, ownerOf}
 use Rattle.plan.specs.Check.{frameCheck, countCheck, clientCheck, ownerCheck, clientStep, requirementsCheck}
 use Rattle.plan.specs.Check.{ownerStep, ownersCheck, planCheck}
 
--- what holds of what each check finds holds of what the plan's check finds
-plan-each : (P : Outcome → Type 0) → P Fine → ((f : ℕ) → P (frameCheck f)) → ((n : ℕ) → P (countCheck n))
-    → ((c : Client) → P (clientCheck c 0)) → ((owner n : ℕ) → P (ownerCheck owner n 0)) → (plan : Plan)
-    → P (planCheck plan)
-unfolding planCheck requirementsCheck ownersCheck clientStep ownerStep
-plan-each P z frame count client owner plan =
+-- what holds of what each check finds holds of what the requirements' check finds
+requirements-each : (P : Outcome → Type 0) → P Fine → ((f : ℕ) → P (frameCheck f)) → ((n : ℕ) → P (countCheck n))
+    → ((c : Client) → P (clientCheck c 0)) → (plan : Plan) → P (requirementsCheck plan)
+unfolding requirementsCheck clientStep
+requirements-each P z frame count client plan =
     let clients : Outcome = firstOf (clientStep plan) (plan .n) in
-    or-each P (requirementsCheck plan) (ownersCheck plan)
-    (or-each P (frameCheck (plan .f)) (orElse (countCheck (plan .n)) clients) (frame (plan .f))
+    or-each P (frameCheck (plan .f)) (orElse (countCheck (plan .n)) clients) (frame (plan .f))
     (or-each P (countCheck (plan .n)) clients (count (plan .n))
-    (first-each P z (clientStep plan) (λ i. client (clientOf plan i)) (plan .n))))
+    (first-each P z (clientStep plan) (λ i. client (clientOf plan i)) (plan .n)))
+
+-- and with the owners' of what the plan's check finds
+plan-each : (P : Outcome → Type 0) → P Fine → ((owner n : ℕ) → P (ownerCheck owner n 0)) → (plan : Plan)
+    → P (requirementsCheck plan) → P (planCheck plan)
+unfolding planCheck ownersCheck ownerStep
+plan-each P z owner plan requirements =
+    or-each P (requirementsCheck plan) (ownersCheck plan) requirements
     (first-each P z (ownerStep plan) (λ x. owner (ownerOf plan x) (plan .n)) (plan .f))
 
 -- ---- numbers
@@ -44,13 +49,17 @@ pub owner-numbered : (most owner n offset : ℕ) → refusal.owner ≤ most → 
 unfolding ownerCheck
 owner-numbered most owner n offset h = need-numbered most (leb owner n) refusal.owner offset (omega arith) h
 
-pub plan-numbered : (most : ℕ) → refusal.owner ≤ most → (plan : Plan) → Numbered most (planCheck plan)
-plan-numbered most h =
-    plan-each (Numbered most) (inl refl)
+pub requirements-numbered : (most : ℕ) → refusal.owner ≤ most → (plan : Plan) → Numbered most (requirementsCheck plan)
+requirements-numbered most h =
+    requirements-each (Numbered most) (inl refl)
     (λ f. range-numbered most f 64 refusal.frame (omega arith) (omega arith))
     (λ n. range-numbered most n 8 refusal.count (omega arith) (omega arith))
     (λ c. client-numbered most c 0 h)
-    (λ owner n. owner-numbered most owner n 0 h)
+
+pub plan-numbered : (most : ℕ) → refusal.owner ≤ most → (plan : Plan) → Numbered most (planCheck plan)
+plan-numbered most h plan =
+    plan-each (Numbered most) (inl refl) (λ owner n. owner-numbered most owner n 0 h) plan
+    (requirements-numbered most h plan)
 
 -- ---- offsets
 
@@ -66,14 +75,21 @@ pub owner-within : (most owner n offset : ℕ) → offset ≤ most → offsetOf 
 unfolding ownerCheck
 owner-within most owner n offset h = need-within most (leb owner n) refusal.owner offset h
 
-pub plan-unread : (plan : Plan) → offsetOf (planCheck plan) ≡ 0
-unfolding clientCheck ownerCheck
-plan-unread =
-    plan-each (λ (o : Outcome). offsetOf o ≡ 0) refl
+abbrev unread : Outcome → Type 0
+unread o = offsetOf o ≡ 0
+
+requirements-unread : (plan : Plan) → unread (requirementsCheck plan)
+unfolding clientCheck
+requirements-unread =
+    requirements-each unread refl
     (λ f. range-unread f 64 refusal.frame)
     (λ n. range-unread n 8 refusal.count)
     (λ c.
-    or-each (λ (o : Outcome). offsetOf o ≡ 0)
+    or-each unread
     (need (between 1 (c .p) (c .q)) refusal.rate 0) (need (leb 1 (c .b)) refusal.latency 0)
     (need-unread (between 1 (c .p) (c .q)) refusal.rate) (need-unread (leb 1 (c .b)) refusal.latency))
-    (λ owner n. need-unread (leb owner n) refusal.owner)
+
+pub plan-unread : (plan : Plan) → offsetOf (planCheck plan) ≡ 0
+unfolding ownerCheck
+plan-unread plan =
+    plan-each unread refl (λ owner n. need-unread (leb owner n) refusal.owner) plan (requirements-unread plan)

@@ -14,12 +14,12 @@ use Rattle.frame.specs.Largest.{largest, lack, lackFrom, scaledOf, waitOf}
 use Rattle.frame.proofs.Scaled.{scaled-is, wait-is}
 use Rattle.records.specs.Refusal as refusal
 use Rattle.records.specs.First.{pick}
-use Rattle.records.proofs.Checks.{false-true, range-pass}
+use Rattle.records.proofs.Checks.{false-true, range-pass, one-or-none}
 use Rattle.records.proofs.Lists.{get-padded}
 use Rattle.plan.specs.declared.Client.{Client}
 use Rattle.plan.specs.declared.Plan.{Plan}
 use Rattle.plan.specs.Plan.{noClient, ownerOf, ownIn, ownOf}
-use Rattle.plan.proofs.Laws.{Required, Checked, one-or-none}
+use Rattle.plan.proofs.Laws.{Required, Checked}
 use Rattle.figures.specs.declared.Figure.{Figure}
 use Rattle.figures.specs.declared.Figures.{Figures}
 use Rattle.figures.specs.declared.Figures.the-variants as figures

@@ -11,7 +11,7 @@ use native.Mathlib.Omega.{arith}
 use lib.Dec.{ltb, leb}
 use lib.ListN.{length}
 use borrow.Author.Tests.{ltb-true, ltb-false, leb-true, eqb-true, lt-ltb, le-ltb, le-leb, lt-leb, eq-eqb, ne-eqb}
-use Rattle.records.specs.First.{pick, between, need, rangeCheck, orElse, firstOf, RefusedBy}
+use Rattle.records.specs.First.{pick, between, need, rangeCheck, orElse, firstOf, numberOf, RefusedBy}
 use Rattle.records.specs.Record.{recordCheck, overCheck}
 use Rattle.records.specs.declared.Outcome.{Outcome}
 use Rattle.records.specs.declared.Outcome.the-variants.{Fine, Refused}
@@ -23,6 +23,10 @@ pub ruleset tests = (lt-ltb, le-ltb, le-leb, lt-leb, eq-eqb, ne-eqb)
 
 pub false-true : {A : Type 0} → false ≡ true → A
 false-true h = let z : _≡_ {A = ℕ} 0 1 = cc in absurd (omega arith)
+
+pub one-or-none : (b : Bool) → pick b 1 0 ≤ 1
+one-or-none true = omega arith
+one-or-none false = omega arith
 
 -- below n + 1 is n, or below n
 pub last-or-below : (i n : ℕ) → i < suc n → (i ≡ n) ⊎ (i < n)
@@ -66,6 +70,14 @@ both-fine (Refused k offset) y h = not-fine h
 -- v, what a check found, is a refusal
 pub refuses : {v x : Outcome} {k offset : ℕ} → v ≡ x → v ≡ Refused k offset → RefusedBy x k
 refuses {v} {x} {k} {offset} e h = let q : x ≡ Refused k offset = sym e ∙ h in rw q refl
+
+pub refused-number : (o : Outcome) (k : ℕ) → RefusedBy o k → k ≡ numberOf o
+refused-number Fine k h = absurd h
+refused-number (Refused number offset) k h = h
+
+pub refused-fine : {A : Type 0} (o : Outcome) (k : ℕ) → RefusedBy o k → o ≡ Fine → A
+refused-fine Fine k h e = absurd h
+refused-fine (Refused number offset) k h e = not-fine e
 
 -- v, what the first check found, decides where it refuses
 pub stops : {v x : Outcome} {k offset : ℕ} (y : Outcome) → v ≡ x → v ≡ Refused k offset → Refused k offset ≡ orElse x y

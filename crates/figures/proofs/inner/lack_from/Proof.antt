@@ -10,8 +10,8 @@ use lib.ListN.{getD}
 use Rattle.frame.specs.Frame.{within}
 use Rattle.frame.specs.Largest.{largest, lack, lackFrom}
 use Rattle.frame.proofs.Scaled.{largest-on}
+use Rattle.records.proofs.Checks.{one-or-none}
 use Rattle.plan.specs.Plan.{ownIn}
-use Rattle.plan.proofs.Laws.{one-or-none}
 use Rattle.figures.proofs.Laws.{count-small, count-on, place-zero, in-frame, place-on, lack-at}
 use Rattle.figures.proofs.inner.lack_from.Statement.{statement}
 use Rattle.figures.proofs.inner.lack_from.Tie as tie

@@ -7,8 +7,8 @@ use borrow.Author.Needs.{needs}
 use lib.Dec.{eqb}
 use lib.ListN.{getD}
 use Rattle.frame.specs.Frame.{within}
+use Rattle.records.proofs.Checks.{one-or-none}
 use Rattle.plan.specs.Plan.{ownIn}
-use Rattle.plan.proofs.Laws.{one-or-none}
 use Rattle.figures.proofs.Laws.{count-small, place-first, count-on}
 use Rattle.figures.proofs.inner.slots.Statement.{statement}
 use Rattle.figures.proofs.inner.slots.Tie as tie

@@ -3,21 +3,20 @@
 -- than j; w counts the client's slots along, and `at` is the place where the stretch ends.
 -- Assumes nothing.
 use mathlib.Core.Path.{_≡_, refl, sym, _∙_}
-use mathlib.Core.Bool.{true, false}
+use mathlib.Core.Bool.{true}
 use Prim.Native.Nat.{ℕ, _+_, _-_, _%_, _≤_, _<_}
 use native.Mathlib.Omega.{arith}
-use borrow.Author.Count.{below-more, below-none}
+use borrow.Author.Count.{below-more}
 use borrow.Author.Needs.{needs}
 use borrow.Author.Tests.{not-true, not-false}
 use lib.Dec.{eqb}
 use lib.ListN.{getD}
-use Rattle.frame.specs.Frame.{slotsOf, within}
+use Rattle.frame.specs.Frame.{within}
 use Rattle.frame.proofs.Within.{within-none}
-use Rattle.plan.specs.declared.Plan.{Plan}
+use Rattle.records.proofs.Checks.{one-or-none}
 use Rattle.plan.specs.Plan.{clientOf, ownOf}
-use Rattle.plan.proofs.Laws.{one-or-none}
 use Rattle.figures.proofs.Laws.{frame-of, count-small, slots-small, count-on, place-zero, place-on, in-frame}
-use Rattle.judge.specs.Rules.{hasRate, inTime}
+use Rattle.judge.specs.Rules.{inTime, IsLate}
 use Rattle.judge.specs.Judge.{AllOk}
 use Rattle.judge.proofs.Laws.{lengths-suffice, starts-suffice, rate-tested, stretch-tested}
 use Rattle.judge.proofs.Laws.{all-more, first-at}
@@ -56,7 +55,8 @@ clients-holds c = (omega arith, record { each = λ i l h. absurd (omega arith) }
 mul-required : tie.Need-mul-required Inv-lengths μ-lengths Inv-starts μ-starts Inv-clients μ-clients
 mul-required c = omega arith
 
-array-copy-out-required : tie.Need-array-copy-out-required Inv-lengths μ-lengths Inv-starts μ-starts Inv-clients μ-clients
+array-copy-out-required :
+    tie.Need-array-copy-out-required Inv-lengths μ-lengths Inv-starts μ-starts Inv-clients μ-clients
 array-copy-out-required c = omega arith
 
 add-slots : tie.Need-add-slots Inv-lengths μ-lengths Inv-starts μ-starts Inv-clients μ-clients
@@ -78,26 +78,31 @@ starts-holds c = (omega arith, λ t l. absurd (omega arith), refl)
 
 lengths-holds : tie.Need-lengths-holds Inv-lengths μ-lengths Inv-starts μ-starts Inv-clients μ-clients
 lengths-holds c =
-    let args = c .before .before .before .before .before .before .before .before .before .before .args in
-    (omega arith, sym (within-none _ _), place-zero (args .plan .f) (c .before .starts .s) (omega arith), λ k l. absurd (omega arith), refl)
+    let in-starts = c .before in
+    let plan = in-starts .before .before .before .before .before .before .before .before .before .args .plan in
+    let place = place-zero (plan .f) (in-starts .starts .s) (omega arith) in
+    (omega arith, sym (within-none _ _), place, λ k l. absurd (omega arith), refl)
 
 in-time-requires : tie.Need-in-time-requires Inv-lengths μ-lengths Inv-starts μ-starts Inv-clients μ-clients
 in-time-requires c κs =
-    let args = c .before .before .before .before .before .before .before .before .before .before .before .before .args in
-    let plan = args .plan in
-    let slots = c .before .before .before .before .before .before .slots in
     let lengths = c .before .lengths in
-    let w = count-small (plan .owners) (plan .f) (c .before .before .before .before .before .before .before .before .before .clients .i + 1) (c .before .before .before .starts .s) (lengths .j) (omega arith) in
-    (omega arith, slots-small plan _ _ (slots .ensures) (omega arith), omega arith, omega arith)
+    let in-starts = c .before .before .before in
+    let slots = in-starts .before .before .before .slots in
+    let in-clients = in-starts .before .before .before .before .before .before in
+    let plan = in-clients .before .before .before .args .plan in
+    let c = in-clients .clients .i + 1 in
+    let w = count-small (plan .owners) (plan .f) c (in-starts .starts .s) (lengths .j) (omega arith) in
+    (omega arith, slots-small plan c _ (slots .ensures) (omega arith), omega arith, omega arith)
 
 add-t28 : tie.Need-add-t28 Inv-lengths μ-lengths Inv-starts μ-starts Inv-clients μ-clients
 add-t28 c = omega arith
 
 array-read-owner : tie.Need-array-read-owner Inv-lengths μ-lengths Inv-starts μ-starts Inv-clients μ-clients
 array-read-owner c =
-    let plan = c .before .before .before .before .before .before .before .before .before .before .before .before .before .before .args .plan in
     let lengths = c .before .before .before .lengths in
-    omega (arith, in-frame (plan .f) (c .before .before .before .before .before .starts .s) (lengths .j) (lengths .at) (omega arith) (lengths .inv .2))
+    let in-starts = c .before .before .before .before .before in
+    let plan = in-starts .before .before .before .before .before .before .before .before .before .args .plan in
+    omega (arith, in-frame (plan .f) (in-starts .starts .s) (lengths .j) (lengths .at) (omega arith) (lengths .inv .2))
 
 add-owned-by : tie.Need-add-owned-by Inv-lengths μ-lengths Inv-starts μ-starts Inv-clients μ-clients
 add-owned-by c = omega arith
@@ -107,18 +112,21 @@ owned-by-requires c κs = search needs
 
 add-w : tie.Need-add-w Inv-lengths μ-lengths Inv-starts μ-starts Inv-clients μ-clients
 add-w c =
-    let plan = c .before .before .before .before .before .before .before .before .before .before .before .before .before .before .before .args .plan in
-    let i = c .before .before .before .before .before .before .before .before .before .before .before .before .clients .i in
     let lengths = c .before .before .before .before .lengths in
-    let w = count-small (plan .owners) (plan .f) (i + 1) (c .before .before .before .before .before .before .starts .s) (lengths .j) (omega arith) in
-    let one = one-or-none (eqb (getD (plan .owners) (lengths .at) 0) (i + 1)) in
+    let in-starts = c .before .before .before .before .before .before in
+    let in-clients = in-starts .before .before .before .before .before .before in
+    let plan = in-clients .before .before .before .args .plan in
+    let client = in-clients .clients .i + 1 in
+    let w = count-small (plan .owners) (plan .f) client (in-starts .starts .s) (lengths .j) (omega arith) in
+    let one = one-or-none (eqb (getD (plan .owners) (lengths .at) 0) client) in
     omega (arith, c .owned-by .ensures)
 
 next-requires : tie.Need-next-requires Inv-lengths μ-lengths Inv-starts μ-starts Inv-clients μ-clients
 next-requires c κs =
-    let plan = c .before .before .before .before .before .before .before .before .before .before .before .before .before .before .before .args .plan in
     let lengths = c .before .before .before .before .lengths in
-    in-frame (plan .f) (c .before .before .before .before .before .before .starts .s) (lengths .j) (lengths .at) (omega arith) (lengths .inv .2)
+    let in-starts = c .before .before .before .before .before .before in
+    let plan = in-starts .before .before .before .before .before .before .before .before .before .args .plan in
+    in-frame (plan .f) (in-starts .starts .s) (lengths .j) (lengths .at) (omega arith) (lengths .inv .2)
 
 add-j : tie.Need-add-j Inv-lengths μ-lengths Inv-starts μ-starts Inv-clients μ-clients
 add-j c = omega arith
@@ -128,19 +136,24 @@ lengths-less c = omega arith
 
 lengths-again : tie.Need-lengths-again Inv-lengths μ-lengths Inv-starts μ-starts Inv-clients μ-clients
 lengths-again c =
-    let plan = c .before .before .before .before .before .before .before .before .before .before .before .before .before .before .before .before .args .plan in
-    let i = c .before .before .before .before .before .before .before .before .before .before .before .before .before .clients .i in
-    let s = c .before .before .before .before .before .before .before .starts .s in
-    let lengths = c .before .before .before .before .before .lengths in
-    let j = lengths .j in
-    let slots = c .before .before .before .before .before .before .before .before .before .before .slots in
     let test = c .before .before .before .in-time in
-    let here =
-    stretch-tested (clientOf plan i) (ownOf plan (i + 1)) (plan .f) _ s j _ _ (test .ensures) (slots .ensures) (lengths .inv .1)
-    ∙ not-false (test .result) (c .before .before .if2 .left) in (
+    let lengths = c .before .before .before .before .before .lengths in
+    let in-starts = c .before .before .before .before .before .before .before in
+    let slots = in-starts .before .before .before .slots in
+    let in-clients = in-starts .before .before .before .before .before .before in
+    let plan = in-clients .before .before .before .args .plan in
+    let i = in-clients .clients .i in
+    let own = ownOf plan (i + 1) in
+    let s = in-starts .starts .s in
+    let j = lengths .j in
+    let w = lengths .inv .1 in
+    let place = lengths .inv .2 in
+    let owned = c .before .owned-by .ensures in
+    let found = stretch-tested (clientOf plan i) own (plan .f) _ s j _ _ (test .ensures) (slots .ensures) w in
+    let here = found ∙ not-false (test .result) (c .before .before .if2 .left) in (
       omega arith,
-      count-on (plan .owners) (plan .f) (i + 1) s j (lengths .w) (lengths .at) _ (lengths .inv .1) (lengths .inv .2) (c .before .owned-by .ensures),
-      c .next .ensures ∙ place-on (plan .f) s j (lengths .at) (lengths .inv .2),
+      count-on (plan .owners) (plan .f) (i + 1) s j (lengths .w) (lengths .at) _ w place owned,
+      c .next .ensures ∙ place-on (plan .f) s j (lengths .at) place,
       below-more _ _ (lengths .inv .3) here,
       lengths .inv .4,
     )
@@ -153,18 +166,20 @@ starts-less c = omega arith
 
 starts-again : tie.Need-starts-again Inv-lengths μ-lengths Inv-starts μ-starts Inv-clients μ-clients
 starts-again c =
-    let args = c .before .before .before .before .before .before .before .before .before .before .before .before .args in
-    let plan = args .plan in
-    let i = c .before .before .before .before .before .before .before .before .before .clients .i in
-    let starts = c .before .before .before .starts in
-    let rate = rate-tested (clientOf plan i) (ownOf plan (i + 1)) (plan .f) _ _ (c .before .before .before .before .before .has-rate .ensures) (c .before .before .before .before .before .before .slots .ensures)
-    ∙ not-false (c .before .before .before .before .before .has-rate .result) (c .before .before .before .before .if1 .left) in
+    let lengths = c .before .lengths in
+    let in-starts = c .before .before .before in
+    let starts = in-starts .starts in
+    let rate = in-starts .before .before .has-rate in
+    let slots = in-starts .before .before .before .slots in
+    let in-clients = in-starts .before .before .before .before .before .before in
+    let plan = in-clients .before .before .before .args .plan in
+    let i = in-clients .clients .i in
+    let x = clientOf plan i in
+    let tested = rate-tested x (ownOf plan (i + 1)) (plan .f) _ _ (rate .ensures) (slots .ensures) in
+    let enough = tested ∙ not-false (rate .result) (in-starts .before .if1 .left) in
     let frame = frame-of plan (i + 1) (omega arith) in
-    let here = lengths-suffice (clientOf plan i) frame rate (starts .s) (λ k l. c .before .lengths .inv .3 k (omega arith)) in (
-      omega arith,
-      below-more _ _ (starts .inv .1) here,
-      c .before .lengths .inv .4 ∙ starts .inv .2,
-    )
+    let here = lengths-suffice x frame enough (starts .s) (λ k l. lengths .inv .3 k (omega arith)) in
+    (omega arith, below-more _ _ (starts .inv .1) here, lengths .inv .4 ∙ starts .inv .2)
 
 add-i : tie.Need-add-i Inv-lengths μ-lengths Inv-starts μ-starts Inv-clients μ-clients
 add-i c = omega arith
@@ -174,54 +189,66 @@ clients-less c = omega arith
 
 clients-again : tie.Need-clients-again Inv-lengths μ-lengths Inv-starts μ-starts Inv-clients μ-clients
 clients-again c =
-    let args = c .before .before .before .before .before .before .before .before .before .before .args in
-    let plan = args .plan in
-    let clients = c .before .before .before .before .before .before .before .clients in
-    let i = clients .i in
     let starts = c .before .starts in
-    let rate = rate-tested (clientOf plan i) (ownOf plan (i + 1)) (plan .f) _ _ (c .before .before .before .has-rate .ensures) (c .before .before .before .before .slots .ensures)
-    ∙ not-false (c .before .before .before .has-rate .result) (c .before .before .if1 .left) in
+    let rate = c .before .before .before .has-rate in
+    let in-clients = c .before .before .before .before .before .before .before in
+    let clients = in-clients .clients in
+    let args = in-clients .before .before .before .args in
+    let plan = args .plan in
+    let i = clients .i in
+    let x = clientOf plan i in
+    let slots = c .before .before .before .before .slots in
+    let tested = rate-tested x (ownOf plan (i + 1)) (plan .f) _ _ (rate .ensures) (slots .ensures) in
+    let enough = tested ∙ not-false (rate .result) (c .before .before .if1 .left) in
     let frame = frame-of plan (i + 1) (omega arith) in
-    let time = starts-suffice (clientOf plan i) frame rate (λ t l. starts .inv .1 t (omega arith)) in (
+    let time = starts-suffice x frame enough (λ t l. starts .inv .1 t (omega arith)) in (
       omega arith,
-      all-more plan (args .from) i (clients .inv .1) (record { rate = rate; time = time }),
+      all-more plan (args .from) i (clients .inv .1) (record { rate = enough; time = time }),
       starts .inv .2 ∙ clients .inv .2,
     )
 
 returns : tie.Need-returns Inv-lengths μ-lengths Inv-starts μ-starts Inv-clients μ-clients
 returns c =
-    let args = c .before .before .before .before .args in
     let clients = c .before .clients in
-    rw (clients .inv .2) (record { each = λ i low high. clients .inv .1 .each i low (omega arith) }, refl, refl, refl)
+    rw (clients .inv .2)
+    (record { each = λ i low high. clients .inv .1 .each i low (omega arith) }, refl, refl, refl)
 
 returns-2 : tie.Need-returns-2 Inv-lengths μ-lengths Inv-starts μ-starts Inv-clients μ-clients
 returns-2 c =
+    let rate = c .before .has-rate in
+    let clients = c .before .before .before .before .before .clients in
     let args = c .before .before .before .before .before .before .before .before .args in
     let plan = args .plan in
-    let clients = c .before .before .before .before .before .clients in
     let i = clients .i in
-    let bad = rate-tested (clientOf plan i) (ownOf plan (i + 1)) (plan .f) _ _ (c .before .has-rate .ensures) (c .before .before .slots .ensures)
-    ∙ not-true (c .before .has-rate .result) (c .if1 .taken) in
-    (first-at plan (args .from) (args .to) i _ (clients .inv .0) (omega arith) (clients .inv .1) bad, refl, refl)
+    let slots = c .before .before .slots in
+    let tested = rate-tested (clientOf plan i) (ownOf plan (i + 1)) (plan .f) _ _ (rate .ensures) (slots .ensures) in
+    let lacks = tested ∙ not-true (rate .result) (c .if1 .taken) in
+    (first-at plan (args .from) (args .to) i _ (clients .inv .0) (omega arith) (clients .inv .1) lacks, refl, refl)
 
 returns-3 : tie.Need-returns-3 Inv-lengths μ-lengths Inv-starts μ-starts Inv-clients μ-clients
 returns-3 c =
-    let args = c .before .before .before .before .before .before .before .before .before .before .before .before .before .before .args in
-    let plan = args .plan in
-    let clients = c .before .before .before .before .before .before .before .before .before .before .before .clients in
-    let i = clients .i in
-    let starts = c .before .before .before .before .before .starts in
-    let lengths = c .before .before .before .lengths in
-    let slots = c .before .before .before .before .before .before .before .before .slots in
     let test = c .before .in-time in
+    let lengths = c .before .before .before .lengths in
+    let in-starts = c .before .before .before .before .before in
+    let starts = in-starts .starts in
+    let rate = in-starts .before .before .has-rate in
+    let slots = in-starts .before .before .before .slots in
+    let in-clients = in-starts .before .before .before .before .before .before in
+    let clients = in-clients .clients in
+    let args = in-clients .before .before .before .args in
+    let plan = args .plan in
+    let i = clients .i in
     let x = clientOf plan i in
     let own = ownOf plan (i + 1) in
-    let rate = rate-tested x own (plan .f) _ _ (c .before .before .before .before .before .before .before .has-rate .ensures) (slots .ensures)
-    ∙ not-false (c .before .before .before .before .before .before .before .has-rate .result) (c .before .before .before .before .before .before .if1 .left) in
-    let bad = stretch-tested x own (plan .f) _ (starts .s) (lengths .j) _ _ (test .ensures) (slots .ensures) (lengths .inv .1)
-    ∙ not-true (test .result) (c .if2 .taken) in
-    first-at plan (args .from) (args .to) i _ (clients .inv .0) (omega arith) (clients .inv .1)
-    (record { rate = rate; fails = bad; start = λ t k l. starts .inv .1 t l k; length = lengths .inv .3 })
+    let s = starts .s in
+    let j = lengths .j in
+    let tested = rate-tested x own (plan .f) _ _ (rate .ensures) (slots .ensures) in
+    let enough = tested ∙ not-false (rate .result) (in-starts .before .if1 .left) in
+    let found = stretch-tested x own (plan .f) _ s j _ _ (test .ensures) (slots .ensures) (lengths .inv .1) in
+    let fails = found ∙ not-true (test .result) (c .if2 .taken) in
+    let late : IsLate x own (plan .f) s j =
+    record { rate = enough; fails = fails; start = λ t k l. starts .inv .1 t l k; length = lengths .inv .3 } in
+    first-at plan (args .from) (args .to) i _ (clients .inv .0) (omega arith) (clients .inv .1) late
 
 pub first-failure-spec : {M : Type 1} → statement M
 first-failure-spec =

@@ -22,10 +22,14 @@ times-requires-2 : tie.Need-times-requires-2
 times-requires-2 c κs = search needs
 
 mul-times-2 : tie.Need-mul-times-2
-mul-times-2 c = let a = c .before .before .args in omega (arith, product-small (a .f) (a .w) (omega arith) (omega arith))
+mul-times-2 c =
+    let a = c .before .before .args in
+    omega (arith, product-small (a .f) (a .w) (omega arith) (omega arith))
 
 times-requires-3 : tie.Need-times-requires-3
-times-requires-3 c κs = let a = c .before .before .args in omega (arith, product-small (a .f) (a .w) (omega arith) (omega arith))
+times-requires-3 c κs =
+    let a = c .before .before .args in
+    omega (arith, product-small (a .f) (a .w) (omega arith) (omega arith))
 
 add-result : tie.Need-add-result
 add-result c = search needs

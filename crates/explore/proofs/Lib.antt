@@ -1,0 +1,4 @@
+pub mod Needs
+pub mod Order
+pub mod Fronts
+pub mod Seen

@@ -1,0 +1,3 @@
+pub mod Best
+pub mod Needs
+pub mod Seen

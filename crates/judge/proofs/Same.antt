@@ -1,0 +1,53 @@
+-- Plans that are the same are judged alike: places past f and past n are not read.
+-- Assumes nothing.
+use mathlib.Core.Path.{_≡_, sym, _∙_, fun-ext}
+use mathlib.Core.Bool.{false}
+use Prim.Native.Nat.{ℕ, _+_, _-_, _≤_, _<_}
+use native.Mathlib.Omega.{arith}
+use Rattle.plan.specs.declared.Client.{Client}
+use Rattle.plan.specs.declared.Plan.{Plan}
+use Rattle.plan.specs.Plan.{clientOf, ownOf, Same}
+use Rattle.plan.proofs.Laws.{plan-fine, same-check, own-same}
+use Rattle.judge.specs.declared.Verdict.{Verdict}
+use Rattle.judge.specs.declared.Verdict.the-variants.{Ok, Rate, Late}
+use Rattle.judge.specs.declared.Judged.{Judged}
+use Rattle.judge.specs.declared.Judged.the-variants as judged
+use Rattle.judge.specs.Rules.{hasRate, IsOk, IsLate}
+use Rattle.judge.specs.Judge.{AllOk, First, JudgedAs, IsJudged}
+
+module _ (plan other : Plan) (same : Same plan other) (f> : 0 < plan .f) where
+  -- what holds of a client in one plan holds in the other
+  client-same : (P : Client → (ℕ → ℕ) → ℕ → Type 0) (i : ℕ) → i < plan .n
+      → P (clientOf plan i) (ownOf plan (i + 1)) (plan .f) → P (clientOf other i) (ownOf other (i + 1)) (other .f)
+  client-same P i l h = rw (same .clients i l, fun-ext (own-same plan other same f> (i + 1)), same .frame) at h
+
+  pub all-same : (from to : ℕ) → to ≤ plan .n → AllOk plan from to → AllOk other from to
+  all-same from to l all = record { each = λ i low high. client-same IsOk i (omega arith) (all .each i low high) }
+
+  first-same : (from to c : ℕ) → to ≤ plan .n → (P : Client → (ℕ → ℕ) → ℕ → Type 0)
+      → First plan from to c (λ i. P (clientOf plan i) (ownOf plan (i + 1)) (plan .f))
+      → First other from to c (λ i. P (clientOf other i) (ownOf other (i + 1)) (other .f))
+  first-same from to c l P first =
+      let i< : first .place < plan .n = omega (arith, first .high) in
+      record {
+        place = first .place;
+        client = first .client;
+        low = first .low;
+        high = first .high;
+        before = all-same from (first .place) (omega arith) (first .before);
+        fails = client-same P (first .place) i< (first .fails);
+      }
+
+  pub judgement-same : (from to : ℕ) → to ≤ plan .n → (v : Verdict) (c s j : ℕ) → JudgedAs plan from to v c s j
+      → JudgedAs other from to v c s j
+  judgement-same from to l Ok c s j h = (all-same from to l (h .0), h .1, h .2, h .3)
+  judgement-same from to l Rate c s j h =
+      (first-same from to c l (λ x own f. hasRate x own f ≡ false) (h .0), h .1, h .2)
+  judgement-same from to l Late c s j h = first-same from to c l (λ x own f. IsLate x own f s j) h
+
+pub judged-same : (plan other : Plan) → Same plan other → (r : Judged) → IsJudged plan r → IsJudged other r
+judged-same plan other same (judged.Given found) is =
+    let f> = plan-fine plan (is .0) .bounds .f-low in
+    let there = judgement-same plan other same f> 0 (plan .n) (omega arith) (found .verdict) _ _ _ (is .1) in
+    (sym (same-check plan other same) ∙ is .0, rw (same .count) at there)
+judged-same plan other same (judged.Refused k) is = rw (same-check plan other same) at is

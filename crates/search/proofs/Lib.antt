@@ -1,0 +1,5 @@
+pub mod Questions
+pub mod Fillings
+pub mod Sets
+pub mod Planting
+pub mod Mending

@@ -1,0 +1,97 @@
+-- `search::inner::fill` meets its contract: the loop has filled the first x slots, and j counts the idle ones among
+-- them.
+-- Assumes nothing.
+use mathlib.Core.Path.{_≡_, sym}
+use Prim.Native.Nat.{_-_, _≤_}
+use native.Mathlib.Omega.{arith}
+use borrow.Author.Needs.{needs}
+use lib.Dec.{eqb}
+use lib.ListN.{getD}
+use Rattle.frame.specs.Frame.{within}
+use Rattle.frame.proofs.Within.{within-none}
+use Rattle.records.specs.Pieces.{padded}
+use Rattle.records.proofs.Lists.{padded-none, padded-more}
+use Rattle.records.proofs.Checks.{one-or-none}
+use Rattle.plan.specs.Plan.{ownIn}
+use Rattle.figures.proofs.Laws.{count-small, count-on, place-first}
+use Rattle.search.specs.Mend.{slotIn}
+use Rattle.search.proofs.Sets.{idle-before, slot-at}
+use Rattle.search.proofs.inner.fill.Statement.{statement}
+use Rattle.search.proofs.inner.fill.Tie as tie
+
+abbrev Inv-loop : tie.InvT-loop
+Inv-loop given f owners table₀ j₀ x₀ table j x =
+    (x ≤ f) × (j ≡ within (ownIn owners f 0) 0 x) × (table ≡ padded (slotIn owners f given) x 64 0)
+
+abbrev μ-loop : tie.MeasureT-loop
+μ-loop given f owners table₀ j₀ x₀ table j x = f - x
+
+loop-holds : tie.Need-loop-holds Inv-loop μ-loop
+loop-holds c = (omega arith, sym (within-none _ _), padded-none _ 64 0)
+
+array-read-owner : tie.Need-array-read-owner Inv-loop μ-loop
+array-read-owner c = search needs
+
+slot-requires : tie.Need-slot-requires Inv-loop μ-loop
+slot-requires c κs =
+    let args = c .before .before .before .args in
+    let loop = c .before .loop in
+    λ e. omega (arith, idle-before (args .plan) (loop .x) (omega arith) e, loop .inv .1)
+
+array-write-table : tie.Need-array-write-table Inv-loop μ-loop
+array-write-table c = search needs
+
+owned-by-requires : tie.Need-owned-by-requires Inv-loop μ-loop
+owned-by-requires c κs = search needs
+
+add-j : tie.Need-add-j Inv-loop μ-loop
+add-j c =
+    let plan = c .before .before .before .before .before .args .plan in
+    let loop = c .before .before .before .loop in
+    let counted = count-small (plan .owners) (plan .f) 0 0 (loop .x) (omega arith) in
+    let most = one-or-none (eqb (getD (plan .owners) (loop .x) 0) 0) in
+    omega (arith, c .owned-by .ensures)
+
+add-x : tie.Need-add-x Inv-loop μ-loop
+add-x c = search needs
+
+loop-less : tie.Need-loop-less Inv-loop μ-loop
+loop-less c = search needs
+
+loop-again : tie.Need-loop-again Inv-loop μ-loop
+loop-again c =
+    let args = c .before .before .before .before .before .args in
+    let owners = args .plan .owners in
+    let f = args .plan .f in
+    let loop = c .before .before .before .loop in
+    let x = loop .x in
+    let place = place-first f x (omega arith) in
+    let stored = slot-at owners f (args .given) x (loop .j) _ (loop .inv .1) (c .before .slot .ensures) in (
+      omega arith,
+      count-on owners f 0 0 x (loop .j) x _ (loop .inv .1) place (c .owned-by .ensures),
+      rw (loop .inv .2, stored) (padded-more (slotIn owners f (args .given)) x 64 0 (omega arith)),
+    )
+
+returns : tie.Need-returns Inv-loop μ-loop
+returns c =
+    let args = c .before .before .before .args in
+    let loop = c .before .loop in
+    let e : loop .x ≡ args .plan .f = omega arith in
+    rw e at (loop .inv .2)
+
+pub fill-spec : {M : Type 1} → statement M
+fill-spec =
+    tie.close
+    (tie.spec
+    Inv-loop
+    μ-loop
+    loop-holds
+    array-read-owner
+    slot-requires
+    array-write-table
+    owned-by-requires
+    add-j
+    add-x
+    loop-less
+    loop-again
+    returns)

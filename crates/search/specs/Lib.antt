@@ -1,0 +1,3 @@
+pub mod Search
+pub mod Mend
+pub mod Trees

@@ -1,0 +1,64 @@
+-- The search (document 01, Judging and searching): what it refuses, which tables are accepted, and what it answers.
+use mathlib.Core.Path.{_≡_}
+use mathlib.Core.Bool.{Bool, true, false}
+use mathlib.Core.List.{List}
+use Prim.Native.Nat.{ℕ, _-_}
+use lib.Dec.{leb}
+use lib.ListN.{take, drop, replicate}
+use Rattle.records.specs.Refusal as refusal
+use Rattle.records.specs.First.{pick, need, orElse, RefusedBy}
+use Rattle.records.specs.declared.Outcome.{Outcome}
+use Rattle.records.specs.declared.Outcome.the-variants.{Fine}
+use Rattle.plan.specs.declared.Client.{Client}
+use Rattle.plan.specs.declared.Plan.{Plan}
+use Rattle.plan.specs.Check.{requirementsCheck}
+use Rattle.judge.specs.Judge.{Accepted}
+use Rattle.explore.specs.Best.{IsBest, NoTable}
+use Rattle.search.specs.declared.Answer.{Answer}
+use Rattle.search.specs.declared.Answer.the-variants as answer
+use Rattle.search.specs.declared.Searched.{Searched}
+
+-- "The search takes f, n and the requirements": a plan that has them, all of its slots idle
+abbrev pub idlePlan : ℕ → ℕ → List Client → Plan
+idlePlan f n clients = record { f = f; n = n; clients = clients; owners = replicate 64 0 }
+
+-- "16 search with f > 8 or n > 4"
+unfoldable pub sizeCheck : Plan → Outcome
+sizeCheck plan = need (pick (leb (plan .f) 8) (leb (plan .n) 4) false) refusal.tooLarge 0
+
+-- "The search reads no owners: 5, 6, 8, 9, 16"
+unfoldable pub searchCheck : Plan → Outcome
+searchCheck plan = orElse (requirementsCheck plan) (sizeCheck plan)
+
+-- a plan with another table
+abbrev pub withTable : Plan → List ℕ → Plan
+withTable plan t = record { f = plan .f; n = plan .n; clients = plan .clients; owners = t }
+
+-- a table is accepted where the plan that has it is
+abbrev pub AcceptedIn : Plan → List ℕ → Type 0
+AcceptedIn plan t = Accepted (withTable plan t)
+
+-- found or not, and the owners returned: the best table, with 0 past f, or all 0
+abbrev pub Finds : (List ℕ → Type 0) → (f n : ℕ) → Bool → List ℕ → Type 0
+Finds P f n true owners = IsBest P f n (take f owners) × (drop f owners ≡ replicate (64 - f) 0)
+Finds P f n false owners = NoTable P f n × (owners ≡ replicate 64 0)
+
+-- what the search answers
+abbrev pub SearchedAs : Plan → Answer → List ℕ → Type 0
+SearchedAs plan answer.Found owners =
+    (searchCheck plan ≡ Fine) × Finds (AcceptedIn plan) (plan .f) (plan .n) true owners
+SearchedAs plan answer.None owners =
+    (searchCheck plan ≡ Fine) × Finds (AcceptedIn plan) (plan .f) (plan .n) false owners
+SearchedAs plan (answer.Refused number) owners = RefusedBy (searchCheck plan) number × (owners ≡ replicate 64 0)
+
+abbrev pub IsSearched : Plan → Searched → Type 0
+IsSearched plan r = SearchedAs plan (r .answer) (r .owners)
+
+-- an answer's number: "A refusal .. returns its number"; ""None" is no refusal"
+abbrev pub searchedNumber : Searched → ℕ
+searchedNumber r = number (r .answer)
+  where
+    number : Answer → ℕ
+    number answer.Found = 0
+    number answer.None = 0
+    number (answer.Refused k) = k
