@@ -1,7 +1,7 @@
--- Dictionary order and fronts: where a table stands that begins with a front, or stands before it; and that the tables
--- passed grow, owner by owner of a front's next place, from those before the front to those up to it.
+-- Dictionary order: there is one best table; where a table stands that begins with a front, or stands before it; and
+-- that the tables passed grow, owner by owner of a front's next place, from those before the front to those up to it.
 -- Assumes nothing.
-use mathlib.Core.Path.{_≡_, refl}
+use mathlib.Core.Path.{_≡_, refl, sym, _∙_}
 use mathlib.Core.List.{List, [], _∷_, _++_, append-nil}
 use mathlib.Core.Logic.{_⊎_, inl, inr, ⊎-elim}
 use Prim.Native.Nat.{ℕ, suc, _+_, _-_, _≤_, _<_}
@@ -9,8 +9,26 @@ use native.Mathlib.Nat.{zero-add}
 use native.Mathlib.Omega.{arith}
 use lib.ListN.{length}
 use Rattle.records.proofs.Checks.{last-or-below}
-use Rattle.explore.specs.Best.{Table, LexLe}
+use Rattle.explore.specs.Best.{Table, owned, LexLe, IsBest}
 use Rattle.explore.specs.Seen.{Past, Before, UpTo}
+
+-- ---- one best table
+
+lex-one : (t u : List ℕ) → length t ≡ length u → LexLe t u → LexLe u t → t ≡ u
+lex-one [] [] e h k = refl
+lex-one [] (y ∷ u) e h k = absurd (omega arith)
+lex-one (x ∷ t) [] e h k = absurd (omega arith)
+lex-one (x ∷ t) (y ∷ u) e (inl l) (inl m) = absurd (omega arith)
+lex-one (x ∷ t) (y ∷ u) e (inl l) (inr k) = absurd (omega (arith, k .0))
+lex-one (x ∷ t) (y ∷ u) e (inr h) (inl m) = absurd (omega (arith, h .0))
+lex-one (x ∷ t) (y ∷ u) e (inr h) (inr k) = rw (h .0, lex-one t u (omega arith) (h .1) (k .1))
+
+pub best-one : (P : List ℕ → Type 0) (f n : ℕ) (t u : List ℕ) → IsBest P f n t → IsBest P f n u → t ≡ u
+best-one P f n t u a b =
+    let same : owned u ≡ owned t =
+    omega (arith, a .fewest u (b .table) (b .good), b .fewest t (a .table) (a .good)) in
+    lex-one t u (a .table .long ∙ sym (b .table .long)) (a .least u (b .table) (b .good) same)
+    (b .least t (a .table) (a .good) (sym same))
 
 -- ---- a table and a front
 
@@ -44,7 +62,7 @@ up-to-itself (y ∷ p) = inr (refl, up-to-itself p)
 -- ---- the tables passed
 
 -- of the tables of g places, those that have Q have Q′, and the other way round
-pub record Same (g n : ℕ) (Q Q′ : List ℕ → Type 0) : Type 0 where
+pub record Agree (g n : ℕ) (Q Q′ : List ℕ → Type 0) : Type 0 where
   pub there : (u : List ℕ) → Table g n u → Q u → Q′ u
   pub back : (u : List ℕ) → Table g n u → Q′ u → Q u
 
@@ -60,7 +78,7 @@ past-map R R′ q q′ k n f (y ∷ p) (x ∷ u) t (inr h) =
     inr (h .0, past-map R R′ q q′ k n f p u rest (h .1))
 
 past-same : (R R′ : List ℕ → Type 0) (q q′ : List ℕ) (g n : ℕ) (p : List ℕ) → length p ≤ g
-    → Same (g - length p) n (Past R q) (Past R′ q′) → Same g n (Past R (p ++ q)) (Past R′ (p ++ q′))
+    → Agree (g - length p) n (Past R q) (Past R′ q′) → Agree g n (Past R (p ++ q)) (Past R′ (p ++ q′))
 past-same R R′ q q′ g n p l s =
     let k = g - length p in
     let e : length p + k ≡ g = omega arith in
@@ -75,9 +93,9 @@ none-below [] h = h
 none-below (x ∷ v) (inl l) = omega arith
 none-below (x ∷ v) (inr h) = h .1
 
-pub before-first : (g n : ℕ) (p : List ℕ) → length p ≤ g → Same g n (Before p) (Before (p ++ (0 ∷ [])))
+pub before-first : (g n : ℕ) (p : List ℕ) → length p ≤ g → Agree g n (Before p) (Before (p ++ (0 ∷ [])))
 before-first g n p l =
-    let s : Same (g - length p) n (Before []) (Before (0 ∷ [])) =
+    let s : Agree (g - length p) n (Before []) (Before (0 ∷ [])) =
     record { there = λ v t h. absurd h; back = λ v t h. none-below v h } in
     rw append-nil at (past-same _ _ [] (0 ∷ []) g n p l s)
 
@@ -94,9 +112,9 @@ below-up-to owner (x ∷ v) (inl l) =
 below-up-to owner (x ∷ v) (inr h) = absurd (h .1)
 
 pub up-to-next : (g n : ℕ) (p : List ℕ) (owner : ℕ) → length p ≤ g
-    → Same g n (UpTo (p ++ (owner ∷ []))) (Before (p ++ ((owner + 1) ∷ [])))
+    → Agree g n (UpTo (p ++ (owner ∷ []))) (Before (p ++ ((owner + 1) ∷ [])))
 up-to-next g n p owner l =
-    let s : Same (g - length p) n (UpTo (owner ∷ [])) (Before ((owner + 1) ∷ [])) =
+    let s : Agree (g - length p) n (UpTo (owner ∷ [])) (Before ((owner + 1) ∷ [])) =
     record { there = λ v t h. up-to-below owner v h; back = λ v t h. below-up-to owner v h } in
     past-same _ _ (owner ∷ []) ((owner + 1) ∷ []) g n p l s
 
@@ -105,8 +123,8 @@ all-below : (k n : ℕ) (v : List ℕ) → 0 < k → Table k n v → Before ((n 
 all-below k n [] l t = absurd (omega (arith, t .long))
 all-below k n (x ∷ v) l t = inl (omega (arith, t .low 0))
 
-pub before-last : (g n : ℕ) (p : List ℕ) → length p < g → Same g n (Before (p ++ ((n + 1) ∷ []))) (UpTo p)
+pub before-last : (g n : ℕ) (p : List ℕ) → length p < g → Agree g n (Before (p ++ ((n + 1) ∷ []))) (UpTo p)
 before-last g n p l =
-    let s : Same (g - length p) n (Before ((n + 1) ∷ [])) (UpTo []) =
+    let s : Agree (g - length p) n (Before ((n + 1) ∷ [])) (UpTo []) =
     record { there = λ v t h. tt; back = λ v t h. all-below (g - length p) n v (omega arith) t } in
     rw append-nil at (past-same _ _ ((n + 1) ∷ []) [] g n p (omega arith) s)

@@ -29,13 +29,16 @@ pub owns-some : (plan : Plan) (c : ℕ) → 1 ≤ slotsOf (ownOf plan c) (plan .
 owns-some plan c l = simp (le-leb 1 (slotsOf (ownOf plan c) (plan .f)) l)
 
 -- "Each refusal has its number"
+pub asked-numbered : (most : ℕ) → refusal.asked ≤ most → (plan : Plan) (c : ℕ) → Numbered most (askedCheck plan c)
+unfolding askedCheck
+asked-numbered most h plan c =
+    or-each (Numbered most) (planCheck plan) (rangeCheck c (plan .n) refusal.asked)
+    (plan-numbered most (omega arith) plan) (range-numbered most c (plan .n) refusal.asked (omega arith) h)
+
 pub figure-numbered : (most : ℕ) → refusal.noSlot ≤ most → (plan : Plan) (c : ℕ) → Numbered most (figureCheck plan c)
-unfolding figureCheck askedCheck
+unfolding figureCheck
 figure-numbered most h plan c =
-    or-each (Numbered most) (askedCheck plan c) (ownsCheck plan c)
-    (or-each (Numbered most) (planCheck plan) (rangeCheck c (plan .n) refusal.asked)
-    (plan-numbered most (omega arith) plan)
-    (range-numbered most c (plan .n) refusal.asked (omega arith) (omega arith)))
+    or-each (Numbered most) (askedCheck plan c) (ownsCheck plan c) (asked-numbered most (omega arith) plan c)
     (need-numbered most (leb 1 (slotsOf (ownOf plan c) (plan .f))) refusal.noSlot 0 (omega arith) h)
 
 pub asked-fine : (plan : Plan) (c : ℕ) → askedCheck plan c ≡ outcome.Fine → Checked plan × (1 ≤ c) × (c ≤ plan .n)
@@ -44,6 +47,10 @@ asked-fine plan c h =
     let a = both-fine _ _ h in
     let r = range-fine c (plan .n) refusal.asked (a .1) in
     (plan-fine plan (a .0), r .0, r .1)
+
+pub asked-pass : (plan : Plan) (c : ℕ) → Checked plan → 1 ≤ c → c ≤ plan .n → askedCheck plan c ≡ outcome.Fine
+unfolding askedCheck
+asked-pass plan c ok low high = rw (plan-pass plan ok) (range-pass c (plan .n) refusal.asked low high)
 
 -- what a plan and a client have that pass
 pub record Asked (plan : Plan) (c : ℕ) : Type 0 where
@@ -61,10 +68,8 @@ figure-fine plan c h =
     record { checked = asked .0; low = asked .1; high = asked .2; owns = owns }
 
 pub figure-pass : (plan : Plan) (c : ℕ) → Asked plan c → figureCheck plan c ≡ outcome.Fine
-unfolding figureCheck askedCheck
-figure-pass plan c ok =
-    rw (plan-pass plan (ok .checked), range-pass c (plan .n) refusal.asked (ok .low) (ok .high))
-    (owns-some plan c (ok .owns))
+unfolding figureCheck
+figure-pass plan c ok = rw (asked-pass plan c (ok .checked) (ok .low) (ok .high)) (owns-some plan c (ok .owns))
 
 -- ---- waits
 

@@ -23,7 +23,7 @@ module _ (plan other : Plan) (same : Same plan other) (c : ℕ) where
   slots-same : 0 < plan .f → ownOf plan c ≡ ownOf other c
   slots-same f> = fun-ext (own-same plan other same f> c)
 
-  asked-check-same : askedCheck plan c ≡ askedCheck other c
+  pub asked-check-same : askedCheck plan c ≡ askedCheck other c
   unfolding askedCheck
   asked-check-same = rw (same-check plan other same, same .count)
 

@@ -19,6 +19,16 @@ use Rattle.judge.specs.declared.Verdict.the-variants.{Ok, Rate, Late}
 use Rattle.judge.specs.Rules.{enough, covers, hasRate, inTime, IsVerdict}
 use Rattle.judge.specs.Judge.{ClientOk, AllOk, First, JudgedAs}
 
+-- ---- enough rate
+
+pub rate-true : (x : Client) (f m : ℕ) → enough x f m ≡ true → x .p * f ≤ m * x .q
+unfolding enough
+rate-true x f m h = leb-true (x .p * f) (m * x .q) h
+
+pub rate-pass : (x : Client) (f m : ℕ) → x .p * f ≤ m * x .q → enough x f m ≡ true
+unfolding enough
+rate-pass x f m h = le-leb (x .p * f) (m * x .q) h
+
 -- ---- a whole frame more
 
 -- j slots with w of the client's are in time, so are f more with all of its m

@@ -8,12 +8,16 @@ use Rattle.plan.specs.declared.Client.{Client}
 use Rattle.plan.specs.declared.Plan.{Plan}
 use Rattle.plan.specs.Plan.{clientOf, ownOf, Same}
 use Rattle.plan.proofs.Laws.{plan-fine, same-check, own-same}
+use Rattle.figures.proofs.Questions.{asked-fine}
+use Rattle.figures.proofs.Same.{asked-check-same}
 use Rattle.judge.specs.declared.Verdict.{Verdict}
 use Rattle.judge.specs.declared.Verdict.the-variants.{Ok, Rate, Late}
 use Rattle.judge.specs.declared.Judged.{Judged}
 use Rattle.judge.specs.declared.Judged.the-variants as judged
-use Rattle.judge.specs.Rules.{hasRate, IsOk, IsLate}
-use Rattle.judge.specs.Judge.{AllOk, First, JudgedAs, IsJudged}
+use Rattle.judge.specs.declared.Verdicts.{Verdicts}
+use Rattle.judge.specs.declared.Verdicts.the-variants as verdicts
+use Rattle.judge.specs.Rules.{hasRate, IsOk, IsLate, IsVerdict}
+use Rattle.judge.specs.Judge.{AllOk, First, JudgedAs, IsJudged, IsVerdictOf}
 
 module _ (plan other : Plan) (same : Same plan other) (f> : 0 < plan .f) where
   -- what holds of a client in one plan holds in the other
@@ -44,6 +48,18 @@ module _ (plan other : Plan) (same : Same plan other) (f> : 0 < plan .f) where
   judgement-same from to l Rate c s j h =
       (first-same from to c l (λ x own f. hasRate x own f ≡ false) (h .0), h .1, h .2)
   judgement-same from to l Late c s j h = first-same from to c l (λ x own f. IsLate x own f s j) h
+
+pub verdict-same : (plan other : Plan) → Same plan other → (c : ℕ) (r : Verdicts) → IsVerdictOf plan c r
+    → IsVerdictOf other c r
+verdict-same plan other same c (verdicts.Given verdict) is =
+    let asked = asked-fine plan c (is .0) in
+    let f> = asked .0 .bounds .f-low in
+    let place : c - 1 + 1 ≡ c = omega (arith, asked .1) in
+    let P : Client → (ℕ → ℕ) → ℕ → Type 0 = λ x own f. IsVerdict x own f verdict in
+    let i< : c - 1 < plan .n = omega (arith, asked .1, asked .2) in
+    let there = client-same plan other same f> P (c - 1) i< (rw place (is .1)) in
+    (sym (asked-check-same plan other same c) ∙ is .0, rw place at there)
+verdict-same plan other same c (verdicts.Refused k) is = rw (asked-check-same plan other same c) at is
 
 pub judged-same : (plan other : Plan) → Same plan other → (r : Judged) → IsJudged plan r → IsJudged other r
 judged-same plan other same (judged.Given found) is =

@@ -53,6 +53,10 @@ JudgedAs plan from to Late c s j =
 abbrev pub IsJudgement : Plan → ℕ → ℕ → Judgement → Type 0
 IsJudgement plan from to r = JudgedAs plan from to (r .verdict) (r .client) (r .start) (r .length)
 
+-- the judgement of an accepted plan: no client, no stretch
+abbrev pub allOk : Judgement
+allOk = record { client = 0; verdict = Ok; start = 0; length = 0 }
+
 -- what judging a plan answers
 abbrev pub IsJudged : Plan → Judged → Type 0
 IsJudged plan (judged.Given found) = (planCheck plan ≡ Fine) × IsJudgement plan 0 (plan .n) found

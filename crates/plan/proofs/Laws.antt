@@ -119,14 +119,22 @@ same-used plan other s =
     let o = padded-same (ownerOf plan) (ownerOf other) (plan .f) 64 0 (s .owners) in
     rw (c, o, s .frame, s .count)
 
+-- plans with the same f, n and requirements are refused alike before their owners are looked at
+pub requirements-same : (plan other : Plan) → plan .f ≡ other .f → plan .n ≡ other .n
+    → ((i : ℕ) → i < plan .n → clientOf plan i ≡ clientOf other i) → requirementsCheck plan ≡ requirementsCheck other
+unfolding requirementsCheck clientStep
+requirements-same plan other frame count clients =
+    let c = first-same (clientStep plan) (clientStep other) (plan .n)
+    (λ i l. ap (λ (x : Client). clientCheck x 0) (clients i l)) in
+    rw (c, frame, count)
+
 -- the same plan is refused alike
 pub same-check : (plan other : Plan) → Same plan other → planCheck plan ≡ planCheck other
-unfolding planCheck requirementsCheck ownersCheck clientStep ownerStep
+unfolding planCheck ownersCheck ownerStep
 same-check plan other s =
-    let c = first-same (clientStep plan) (clientStep other) (plan .n)
-    (λ i l. ap (λ (x : Client). clientCheck x 0) (s .clients i l)) in
+    let r = requirements-same plan other (s .frame) (s .count) (s .clients) in
     let o = first-same (ownerStep plan) (ownerStep other) (plan .f) (λ x l. rw (s .owners x l, s .count)) in
-    rw (c, o, s .frame, s .count)
+    rw (r, o, s .frame)
 
 -- ---- a client's slots
 

@@ -1,25 +1,29 @@
--- The bench examples are right: a test of each, which is computed, says that its answer is what `frame` works out; that
--- is an answer that the contract allows, and it allows no other.
+-- The bench examples are right: a test of each is computed, and says that the answer is one that the contract allows; and
+-- it allows no other.
 -- Assumes nothing.
 use mathlib.Core.Path.{_≡_, refl, sym, ap, fun-ext}
 use mathlib.Core.Bool.{Bool, true, false}
 use mathlib.Core.List.{List, [], _∷_}
-use Prim.Native.Nat.{ℕ, _%_, _≤_, _<_}
+use Prim.Native.Nat.{ℕ, _+_, _%_, _≤_, _<_}
 use native.Mathlib.Nat.{mod-lt}
 use native.Mathlib.Omega.{arith}
 use lib.Dec.{eqb, leb}
+use lib.ListN.{take}
 use borrow.Author.Tests.{eqb-true, leb-true}
-use Rattle.frame.specs.Frame.{slotsOf, within}
+use Rattle.frame.specs.Frame.{slotsOf, within, Frame}
 use Rattle.frame.specs.Largest.{largest, lack, lackFrom, scaledOf, waitOf}
 use Rattle.frame.proofs.Scaled.{scaled-is, wait-is}
 use Rattle.records.specs.Refusal as refusal
-use Rattle.records.specs.First.{pick}
-use Rattle.records.proofs.Checks.{false-true, range-pass, one-or-none}
+use Rattle.records.specs.First.{pick, rangeCheck, firstOf}
+use Rattle.records.specs.Pieces.{firsts, padded}
+use Rattle.records.specs.declared.Outcome.the-variants.{Fine}
+use Rattle.records.proofs.Checks.{range-pass, one-or-none, refused-fine}
 use Rattle.records.proofs.Lists.{get-padded}
 use Rattle.plan.specs.declared.Client.{Client}
 use Rattle.plan.specs.declared.Plan.{Plan}
-use Rattle.plan.specs.Plan.{noClient, ownerOf, ownIn, ownOf}
-use Rattle.plan.proofs.Laws.{Required, Checked}
+use Rattle.plan.specs.Plan.{noClient, clientOf, ownerOf, ownIn, ownOf}
+use Rattle.plan.specs.Check.{clientCheck, clientStep, requirementsCheck, planCheck}
+use Rattle.plan.proofs.Laws.{Required, Checked, plan-pass}
 use Rattle.figures.specs.declared.Figure.{Figure}
 use Rattle.figures.specs.declared.Figures.{Figures}
 use Rattle.figures.specs.declared.Figures.the-variants as figures
@@ -30,8 +34,22 @@ use Rattle.figures.proofs.Laws.{frame-of}
 use Rattle.figures.proofs.Questions.{Asked, figure-pass}
 use Rattle.figures.proofs.Answers.{figures-given, waits-given}
 use Rattle.figures.proofs.Once.{figures-once, waits-once}
-use Rattle.promises.specs.Bench.{Table, among, tablePlan, little, Question, figure, waiting, Right, AllRight}
-use Rattle.promises.specs.Bench.{questions}
+use Rattle.judge.specs.declared.Judged.the-variants as judged
+use Rattle.judge.specs.Rules.{enough, covers, IsOk, IsLate}
+use Rattle.judge.specs.Judge.{AllOk, allOk}
+use Rattle.judge.proofs.Laws.{first-at}
+use Rattle.judge.proofs.Once.{judged-once}
+use Rattle.explore.specs.Best.{owned, IsBest}
+use Rattle.explore.proofs.Order.{best-one}
+use Rattle.search.specs.declared.Answer.{Answer}
+use Rattle.search.specs.declared.Answer.the-variants as answer
+use Rattle.search.specs.Search.{searchCheck, sizeCheck, AcceptedIn, SearchedAs}
+use Rattle.search.proofs.Questions.{search-fine}
+use Rattle.promises.specs.Bench.{Table, among, tablePlan, searchPlan, little, Question, figure, waiting}
+use Rattle.promises.specs.Bench.{accepted, late, found, none, Right, AllRight, questions}
+use Rattle.promises.proofs.Tests.{both, allBelow, fineTest, fine-tested, okTest, ok-tested, lateTest}
+use Rattle.promises.proofs.Tests.{late-tested, acceptTest, everyTable, lexTest, betterTest, noneTest}
+use Rattle.promises.proofs.Tests.{none-tested, bestTest, best-tested}
 
 -- ---- a table as a plan
 
@@ -76,10 +94,6 @@ abbrev every : List Bool → Bool
 every [] = true
 every (b ∷ bs) = pick b (every bs) false
 
-both : (a b : Bool) → pick a b false ≡ true → (a ≡ true) × (b ≡ true)
-both true b h = (refl, h)
-both false b h = false-true h
-
 -- f is 1 to 64, m is the client's slots, and not 0, and L is what `frame` works out
 abbrev figureTest : Table → ℕ → ℕ → Bool
 figureTest t m L =
@@ -94,12 +108,24 @@ figureTest t m L =
 abbrev waitTest : ℕ → ℕ → ℕ → ℕ → ℕ → Bool
 waitTest f m L k slots = every (leb 1 k ∷ leb k mostWaiting ∷ eqb (waitOf f m L k) slots ∷ [])
 
+-- f is 1 to 64, p is 1 to q and b is not 0
+abbrev tableTest : Table → Client → Bool
+tableTest t client =
+    every (
+    leb 1 (t .f) ∷ leb (t .f) 64 ∷ leb 1 (client .p) ∷ leb (client .p) (client .q) ∷ leb 1 (client .b) ∷ []
+    )
+
 test : Question → Bool
 test (figure t m L) = figureTest t m L
 test (waiting t k slots) =
     let m = slotsOf (slotAt t) (t .f) in
     let L = scaledOf (slotAt t) (t .f) m in
     pick (figureTest t m L) (waitTest (t .f) m L k slots) false
+test (accepted t client) = pick (tableTest t client) (okTest client (slotAt t) (t .f)) false
+test (late t client s j) = pick (tableTest t client) (lateTest client (slotAt t) (t .f) s j) false
+test (found f n client table) =
+    pick (fineTest (searchCheck (searchPlan f n client))) (bestTest (searchPlan f n client) table) false
+test (none f n client) = pick (fineTest (searchCheck (searchPlan f n client))) (noneTest (searchPlan f n client)) false
 
 -- ---- what it says
 
@@ -135,8 +161,8 @@ module _ (t : Table) (m L : ℕ) (facts : Figured t m L) where
   unfolding plan
   own = own-table little t (facts .f-low)
 
-  answer : Figure
-  answer = record { slots = m; scaled = L }
+  its-figure : Figure
+  its-figure = record { slots = m; scaled = L }
 
   asked : Asked plan 1
   unfolding plan tablePlan
@@ -152,32 +178,124 @@ module _ (t : Table) (m L : ℕ) (facts : Figured t m L) where
   worked : scaledOf (ownOf plan 1) (t .f) (slotsOf (ownOf plan 1) (t .f)) ≡ L
   worked = rw (own, facts .slots) (facts .scaled)
 
-  answer-is : IsFigure (ownOf plan 1) (t .f) answer
-  unfolding plan tablePlan answer
-  answer-is =
+  figure-is : IsFigure (ownOf plan 1) (t .f) its-figure
+  unfolding plan tablePlan its-figure
+  figure-is =
       record {
         slots = rw own (sym (facts .slots));
         scaled = rw worked at (scaled-is (frame-of plan 1 (facts .f-low)));
       }
 
   figure-right : Right (figure t m L)
-  unfolding plan tablePlan answer
+  unfolding plan tablePlan its-figure
   figure-right r is =
-      let allowed = figures-given plan 1 answer (figure-pass plan 1 asked) answer-is in
-      let e = figures-once plan 1 r (figures.Given answer) is allowed in
+      let allowed = figures-given plan 1 its-figure (figure-pass plan 1 asked) figure-is in
+      let e = figures-once plan 1 r (figures.Given its-figure) is allowed in
       (ap figuresNumber e, ap (λ (x : Figures). figureIn x .slots) e, ap (λ (x : Figures). figureIn x .scaled) e)
 
   wait-right : (k slots : ℕ) → waitTest (t .f) m L k slots ≡ true → Right (waiting t k slots)
-  unfolding plan tablePlan answer
+  unfolding plan tablePlan its-figure
   wait-right k slots h r is =
       let a = both (leb 1 k) _ h in
       let b = both (leb k mostWaiting) _ (a .1) in
       let c = both (eqb (waitOf (t .f) m L k) slots) true (b .1) in
       let range = range-pass k mostWaiting refusal.waiting (leb-true 1 k (a .0)) (leb-true k mostWaiting (b .0)) in
       let least = rw (eqb-true (waitOf (t .f) m L k) slots (c .0)) at (wait-is (t .f) m L k (facts .m-low)) in
-      let allowed = waits-given plan 1 k slots answer (figure-pass plan 1 asked) range answer-is least in
+      let allowed = waits-given plan 1 k slots its-figure (figure-pass plan 1 asked) range figure-is least in
       let e = waits-once plan 1 k r (wait.Given slots) is allowed in
       (ap waitNumber e, ap waitIn e)
+
+-- ---- judging a table, and the search
+
+record Fitting (t : Table) (client : Client) : Type 0 where
+  f-low : 1 ≤ t .f
+  f-high : t .f ≤ 64
+  required : Required client
+
+fitting : (t : Table) (client : Client) → tableTest t client ≡ true → Fitting t client
+fitting t client h =
+    let a = both (leb 1 (t .f)) _ h in
+    let b = both (leb (t .f) 64) _ (a .1) in
+    let c = both (leb 1 (client .p)) _ (b .1) in
+    let d = both (leb (client .p) (client .q)) _ (c .1) in
+    let e = both (leb 1 (client .b)) true (d .1) in
+    record {
+      f-low = leb-true 1 (t .f) (a .0);
+      f-high = leb-true (t .f) 64 (b .0);
+      required =
+          record {
+            p-low = leb-true 1 (client .p) (c .0);
+            p-high = leb-true (client .p) (client .q) (d .0);
+            b-low = leb-true 1 (client .b) (e .0);
+          };
+    }
+
+module _ (t : Table) (client : Client) (facts : Fitting t client) where
+  judged-plan : Plan
+  judged-plan = tablePlan client t
+
+  fine : planCheck judged-plan ≡ Fine
+  unfolding judged-plan
+  fine = plan-pass judged-plan (table-checked client t (facts .required) (facts .f-low) (facts .f-high))
+
+  table-frame : Frame (slotAt t) (t .f) (slotsOf (slotAt t) (t .f))
+  unfolding tablePlan
+  table-frame = rw (own-table client t (facts .f-low)) at (frame-of (tablePlan client t) 1 (facts .f-low))
+
+  -- what holds of the table's client holds of the plan's only one
+  only : (P : Client → (ℕ → ℕ) → ℕ → Type 0) → P client (slotAt t) (t .f) → (i : ℕ) → i < 1
+      → P (clientOf judged-plan i) (ownOf judged-plan (i + 1)) (judged-plan .f)
+  unfolding judged-plan tablePlan
+  only P h i l =
+      let first : i ≡ 0 = omega arith in
+      rw (first, get-padded (λ j. client) 1 8 noClient 0 (omega arith), own-table client t (facts .f-low)) h
+
+  accepted-right : okTest client (slotAt t) (t .f) ≡ true → Right (accepted t client)
+  unfolding judged-plan tablePlan
+  accepted-right h r is =
+      let ok = ok-tested client (slotAt t) (t .f) table-frame h in
+      judged-once judged-plan r (judged.Given allOk) is
+      (fine, (record { each = λ i low l. only IsOk ok i l }, refl, refl, refl))
+
+  late-right : (s j : ℕ) → lateTest client (slotAt t) (t .f) s j ≡ true → Right (late t client s j)
+  unfolding judged-plan tablePlan
+  late-right s j h r is =
+      let bad = late-tested client (slotAt t) (t .f) table-frame s j h in
+      let none-before : AllOk judged-plan 0 0 = record { each = λ i low l. absurd (omega arith) } in
+      judged-once judged-plan r _ is (
+        fine,
+        first-at judged-plan 0 1 0 _ (omega arith) (omega arith) none-before
+            (only (λ x own f. IsLate x own f s j) bad 0 (omega arith)),
+      )
+
+module _ (f n : ℕ) (client : Client) (facts : fineTest (searchCheck (searchPlan f n client)) ≡ true) where
+  searched : Plan
+  searched = searchPlan f n client
+
+  passes : searchCheck searched ≡ Fine
+  unfolding searched
+  passes = fine-tested (searchCheck searched) facts
+
+  found-right : (table : List ℕ) → bestTest (searchPlan f n client) table ≡ true → Right (found f n client table)
+  unfolding searched searchPlan
+  found-right table h r is = by (r .answer) is
+    where
+      best : IsBest (AcceptedIn searched) f n table
+      best = best-tested searched (search-fine searched passes .bounds .f-low) table h
+
+      by : (a : Answer) → SearchedAs searched a (r .owners) → (a ≡ answer.Found) × (take f (r .owners) ≡ table)
+      by answer.Found x = (refl, best-one (AcceptedIn searched) f n _ table (x .1 .0) best)
+      by answer.None x = absurd (x .1 .0 table (best .table) (best .good))
+      by (answer.Refused k) x = refused-fine (searchCheck searched) k (x .0) passes
+
+  none-right : noneTest (searchPlan f n client) ≡ true → Right (none f n client)
+  unfolding searched searchPlan
+  none-right h r is = by (r .answer) is
+    where
+      by : (a : Answer) → SearchedAs searched a (r .owners) → a ≡ answer.None
+      by answer.Found x = absurd (none-tested searched h _ (x .1 .0 .table) (x .1 .0 .good))
+      by answer.None x = refl
+      by (answer.Refused k) x = refused-fine (searchCheck searched) k (x .0) passes
 
 right : (q : Question) → test q ≡ true → Right q
 unfolding test
@@ -187,6 +305,18 @@ right (waiting t k slots) h =
     let L = scaledOf (slotAt t) (t .f) m in
     let g = both (figureTest t m L) (waitTest (t .f) m L k slots) h in
     wait-right t m L (figured t m L (g .0)) k slots (g .1)
+right (accepted t client) h =
+    let g = both (tableTest t client) (okTest client (slotAt t) (t .f)) h in
+    accepted-right t client (fitting t client (g .0)) (g .1)
+right (late t client s j) h =
+    let g = both (tableTest t client) (lateTest client (slotAt t) (t .f) s j) h in
+    late-right t client (fitting t client (g .0)) s j (g .1)
+right (found f n client table) h =
+    let g = both (fineTest (searchCheck (searchPlan f n client))) (bestTest (searchPlan f n client) table) h in
+    found-right f n client (g .0) table (g .1)
+right (none f n client) h =
+    let g = both (fineTest (searchCheck (searchPlan f n client))) (noneTest (searchPlan f n client)) h in
+    none-right f n client (g .0) (g .1)
 
 -- ---- all of them
 
@@ -199,5 +329,7 @@ all-right [] h = tt
 all-right (q ∷ qs) h = let g = both (test q) (testAll qs) h in (right q (g .0), all-right qs (g .1))
 
 pub bench : AllRight questions
-unfolding questions test slotAt scaledOf lackFrom largest lack within waitOf
+unfolding questions test slotAt scaledOf lackFrom largest lack within waitOf okTest lateTest fineTest noneTest bestTest
+    acceptTest everyTable allBelow betterTest lexTest owned enough covers ownIn searchPlan searchCheck sizeCheck
+    requirementsCheck clientStep clientCheck rangeCheck firstOf firsts padded
 bench = all-right questions refl

@@ -2,18 +2,20 @@
 -- two outcomes that it allows coincide; each refusal has its number; a refusal gives 0 for all else, a refused read a
 -- plan of zeros, and leaves a lent output untouched.
 -- Assumes nothing.
-use mathlib.Core.Path.{_≡_, refl, sym, _∙_}
-use mathlib.Core.List.{List}
-use Prim.Native.Nat.{ℕ, _≤_}
+use mathlib.Core.Path.{_≡_, refl, sym, ap, _∙_}
+use mathlib.Core.List.{List, [], _∷_}
+use Prim.Native.Nat.{ℕ, _≤_, _<_}
 use native.Mathlib.Omega.{arith}
-use lib.ListN.{length, drop}
+use lib.ListN.{length, getD, drop, replicate}
 use lib.Seq.{drop-at}
 use Rattle.records.specs.Refusal as refusal
 use Rattle.records.specs.First.{numberOf, offsetOf, Numbered}
 use Rattle.records.specs.declared.Outcome.{Outcome}
 use Rattle.records.specs.declared.Outcome.the-variants.{Fine, Refused}
+use Rattle.records.proofs.Checks.{refused-number, refused-fine}
+use Rattle.plan.specs.declared.Client.{Client}
 use Rattle.plan.specs.declared.Plan.{Plan}
-use Rattle.plan.specs.Plan.{noPlan, Same}
+use Rattle.plan.specs.Plan.{noClient, noPlan, Same}
 use Rattle.plan.specs.Check.{planCheck}
 use Rattle.plan.proofs.Laws.{Checked, plan-fine, plan-pass, same-check}
 use Rattle.plan.proofs.Refusals.{plan-numbered, plan-unread}
@@ -21,7 +23,7 @@ use Rattle.stream.specs.Read.{readCheck, planOf, planIf, readOf}
 use Rattle.stream.specs.Write.{streamOf, writeCheck, writtenBy, writtenOf, writtenNumber, writtenSize, bytesBy}
 use Rattle.stream.specs.Write.{bytesOf, Wrote}
 use Rattle.stream.specs.declared.Written.{Written}
-use Rattle.figures.specs.Check.{figureCheck, waitCheck}
+use Rattle.figures.specs.Check.{askedCheck, figureCheck, waitCheck}
 use Rattle.figures.specs.Figures.{noFigure, figuresNumber, figureIn, IsFigures, waitNumber, waitIn, IsWaitFor}
 use Rattle.figures.specs.declared.Figure.{Figure}
 use Rattle.figures.specs.declared.Figures.{Figures}
@@ -29,10 +31,26 @@ use Rattle.figures.specs.declared.Figures.the-variants as figures
 use Rattle.figures.specs.declared.Wait.{Wait}
 use Rattle.figures.specs.declared.Wait.the-variants as wait
 use Rattle.figures.proofs.Questions.{Asked, figure-numbered, figure-fine, figure-pass, Waited, wait-fine, wait-pass}
-use Rattle.figures.proofs.Questions.{wait-numbered}
+use Rattle.figures.proofs.Questions.{wait-numbered, asked-numbered, asked-fine, asked-pass}
 use Rattle.figures.proofs.Answers.{refused-not-fine, wait-refused-not-fine}
 use Rattle.figures.proofs.Once.{figures-once, waits-once}
 use Rattle.figures.proofs.Same.{figures-same, waits-same}
+use Rattle.judge.specs.declared.Judged.{Judged}
+use Rattle.judge.specs.declared.Judged.the-variants as judged
+use Rattle.judge.specs.declared.Judgement.{Judgement}
+use Rattle.judge.specs.declared.Verdict.{Verdict}
+use Rattle.judge.specs.declared.Verdicts.{Verdicts}
+use Rattle.judge.specs.declared.Verdicts.the-variants as verdicts
+use Rattle.judge.specs.Judge.{IsJudged, judgedNumber, judgedValues, IsVerdictOf, verdictNumber}
+use Rattle.judge.proofs.Once.{judged-once, verdict-once as verdicts-once}
+use Rattle.judge.proofs.Same.{judged-same, verdict-same as verdicts-same}
+use Rattle.search.specs.declared.Answer.{Answer}
+use Rattle.search.specs.declared.Answer.the-variants as answer
+use Rattle.search.specs.declared.Searched.{Searched}
+use Rattle.search.specs.Search.{idlePlan, searchCheck, SearchedAs, IsSearched, searchedNumber}
+use Rattle.search.proofs.Questions.{Searchable, search-fine, search-pass, search-numbered}
+use Rattle.search.proofs.Once.{searched-once}
+use Rattle.search.proofs.Same.{searched-same}
 use Rattle.promises.specs.Trip.{Copied}
 use Rattle.stream.proofs.Same.{same-stream}
 use Rattle.stream.proofs.Numbers.{read-numbered, write-numbered}
@@ -62,6 +80,17 @@ figure-once = figures-once
 pub wait-once : (plan : Plan) (c k : ℕ) (r r′ : Wait) → IsWaitFor plan c k r → IsWaitFor plan c k r′ → r ≡ r′
 wait-once = waits-once
 
+-- where it says "exactly when", "first", "fewest" and "least": `judge`, `verdict_of`, `search`
+pub judge-once : (plan : Plan) (r r′ : Judged) → IsJudged plan r → IsJudged plan r′ → r ≡ r′
+judge-once = judged-once
+
+pub verdict-once : (plan : Plan) (c : ℕ) (r r′ : Verdicts) → IsVerdictOf plan c r → IsVerdictOf plan c r′ → r ≡ r′
+verdict-once = verdicts-once
+
+pub search-once : (f n : ℕ) (clients : List Client) (r r′ : Searched) → IsSearched (idlePlan f n clients) r
+    → IsSearched (idlePlan f n clients) r′ → r ≡ r′
+search-once f n clients = searched-once (idlePlan f n clients)
+
 -- ---- "Each refusal has its number"
 
 pub read-number : (s : List ℕ) → Numbered 11 (readOf s .outcome)
@@ -80,6 +109,30 @@ figure-number = figure-numbered refusal.noSlot (omega arith)
 pub wait-number : (plan : Plan) (c k : ℕ) → Numbered 15 (waitCheck plan c k)
 wait-number = wait-numbered refusal.waiting (omega arith)
 
+-- judging has the plan's numbers, a client's verdict 13 besides
+pub judge-number : (plan : Plan) (r : Judged) → IsJudged plan r → judgedNumber r ≡ numberOf (planCheck plan)
+judge-number plan (judged.Given found) is = sym (ap numberOf (is .0))
+judge-number plan (judged.Refused k) is = refused-number (planCheck plan) k is
+
+pub verdict-number : (plan : Plan) (c : ℕ) (r : Verdicts) → IsVerdictOf plan c r
+    → (verdictNumber r ≡ numberOf (askedCheck plan c)) × Numbered 13 (askedCheck plan c)
+verdict-number plan c (verdicts.Given verdict) is =
+    (sym (ap numberOf (is .0)), asked-numbered refusal.asked (omega arith) plan c)
+verdict-number plan c (verdicts.Refused k) is =
+    (refused-number (askedCheck plan c) k is, asked-numbered refusal.asked (omega arith) plan c)
+
+pub search-number : (f n : ℕ) (clients : List Client) (r : Searched) → IsSearched (idlePlan f n clients) r
+    → (searchedNumber (r .answer) ≡ numberOf (searchCheck (idlePlan f n clients)))
+    × Numbered 16 (searchCheck (idlePlan f n clients))
+search-number f n clients r is =
+    (search-number-by (idlePlan f n clients) (r .answer) (r .owners) is, search-numbered 16 (omega arith) _)
+  where
+    search-number-by : (plan : Plan) (a : Answer) (owners : List ℕ) → SearchedAs plan a owners
+        → searchedNumber a ≡ numberOf (searchCheck plan)
+    search-number-by plan answer.Found owners x = sym (ap numberOf (x .0))
+    search-number-by plan answer.None owners x = sym (ap numberOf (x .0))
+    search-number-by plan (answer.Refused k) owners x = refused-number (searchCheck plan) k (x .0)
+
 -- a plan passes exactly when it is in bounds
 pub check-exactly : (plan : Plan) → (planCheck plan ≡ Fine → Checked plan) × (Checked plan → planCheck plan ≡ Fine)
 check-exactly plan = (plan-fine plan, plan-pass plan)
@@ -94,6 +147,18 @@ pub wait-exactly : (plan : Plan) (c k : ℕ)
     → (waitCheck plan c k ≡ Fine → Waited plan c k) × (Waited plan c k → waitCheck plan c k ≡ Fine)
 wait-exactly plan c k = (wait-fine plan c k, wait-pass plan c k)
 
+-- a verdict is asked for exactly when the plan is in bounds and the client is 1 to n
+pub verdict-exactly : (plan : Plan) (c : ℕ)
+    → (askedCheck plan c ≡ Fine → Checked plan × (1 ≤ c) × (c ≤ plan .n))
+    × (Checked plan × (1 ≤ c) × (c ≤ plan .n) → askedCheck plan c ≡ Fine)
+verdict-exactly plan c = (asked-fine plan c, λ ok. asked-pass plan c (ok .0) (ok .1) (ok .2))
+
+-- a search passes exactly when f, n and the requirements are in bounds, f is at most 8 and n at most 4
+pub search-exactly : (f n : ℕ) (clients : List Client)
+    → (searchCheck (idlePlan f n clients) ≡ Fine → Searchable (idlePlan f n clients))
+    × (Searchable (idlePlan f n clients) → searchCheck (idlePlan f n clients) ≡ Fine)
+search-exactly f n clients = (search-fine (idlePlan f n clients), search-pass (idlePlan f n clients))
+
 -- and where it passes, its answer is given
 pub figure-given : (plan : Plan) (c : ℕ) (r : Figures) → Asked plan c → IsFigures plan c r
     → (figure : Figure) × (r ≡ figures.Given figure)
@@ -105,6 +170,17 @@ pub wait-given : (plan : Plan) (c k : ℕ) (r : Wait) → Waited plan c k → Is
 wait-given plan c k (wait.Given slots) ok is = (slots, refl)
 wait-given plan c k (wait.Refused number) ok is =
     absurd (wait-refused-not-fine plan c k number is (wait-pass plan c k ok))
+
+pub judge-given : (plan : Plan) (r : Judged) → Checked plan → IsJudged plan r
+    → (found : Judgement) × (r ≡ judged.Given found)
+judge-given plan (judged.Given found) ok is = (found, refl)
+judge-given plan (judged.Refused k) ok is = refused-fine (planCheck plan) k is (plan-pass plan ok)
+
+pub verdict-given : (plan : Plan) (c : ℕ) (r : Verdicts) → Checked plan × (1 ≤ c) × (c ≤ plan .n) → IsVerdictOf plan c r
+    → (verdict : Verdict) × (r ≡ verdicts.Given verdict)
+verdict-given plan c (verdicts.Given verdict) ok is = (verdict, refl)
+verdict-given plan c (verdicts.Refused k) ok is =
+    refused-fine (askedCheck plan c) k is (asked-pass plan c (ok .0) (ok .1) (ok .2))
 
 -- ---- "places past f .. and past n are ignored on the way in": plans that are the same get the same reply
 
@@ -125,6 +201,18 @@ figure-same plan other c r s = figures-same plan other s c r
 pub wait-same : (plan other : Plan) (c k : ℕ) (r : Wait) → Same plan other → IsWaitFor plan c k r
     → IsWaitFor other c k r
 wait-same plan other c k r s = waits-same plan other s c k r
+
+pub judge-same : (plan other : Plan) (r : Judged) → Same plan other → IsJudged plan r → IsJudged other r
+judge-same plan other r s = judged-same plan other s r
+
+pub verdict-same : (plan other : Plan) (c : ℕ) (r : Verdicts) → Same plan other → IsVerdictOf plan c r
+    → IsVerdictOf other c r
+verdict-same plan other c r s = verdicts-same plan other s c r
+
+pub search-same : (f n : ℕ) (cs ds : List Client) (r : Searched)
+    → ((i : ℕ) → i < n → getD cs i noClient ≡ getD ds i noClient)
+    → IsSearched (idlePlan f n cs) r → IsSearched (idlePlan f n ds) r
+search-same f n cs ds r alike = searched-same f n cs ds alike (r .answer) (r .owners)
 
 -- ---- what a refusal returns
 
@@ -178,6 +266,22 @@ pub wait-refused : (plan : Plan) (c k : ℕ) (r : Wait) → IsWaitFor plan c k r
     → (waitNumber r ≡ numberOf (waitCheck plan c k)) × (waitIn r ≡ 0)
 wait-refused plan c k (wait.Given slots) is h = absurd (h (sym (is .number)))
 wait-refused plan c k (wait.Refused number) is h = (is .number, refl)
+
+-- a refused plan has no first client, start and length, and a refused search no table
+pub judge-refused : (plan : Plan) (r : Judged) → IsJudged plan r → (judgedNumber r ≡ 0 → ⊥)
+    → judgedValues r ≡ 0 ∷ 0 ∷ 0 ∷ []
+judge-refused plan (judged.Given found) is h = absurd (h refl)
+judge-refused plan (judged.Refused k) is h = refl
+
+pub search-refused : (f n : ℕ) (clients : List Client) (r : Searched) → IsSearched (idlePlan f n clients) r
+    → (searchedNumber (r .answer) ≡ 0 → ⊥) → r .owners ≡ replicate 64 0
+search-refused f n clients r = by (r .answer)
+  where
+    by : (a : Answer) → SearchedAs (idlePlan f n clients) a (r .owners) → (searchedNumber a ≡ 0 → ⊥)
+        → r .owners ≡ replicate 64 0
+    by answer.Found x h = absurd (h refl)
+    by answer.None x h = absurd (h refl)
+    by (answer.Refused k) x h = x .1
 
 kept-by : (o : Outcome) (stream out : List ℕ) → drop (length stream) (bytesBy o stream out) ≡ drop (length stream) out
 kept-by Fine stream out = drop-at stream (drop (length stream) out) (length stream) refl

@@ -3,3 +3,4 @@ pub mod Demand2
 pub mod Trips
 pub mod Worked
 pub mod Bench
+pub mod Tests

@@ -1,10 +1,11 @@
--- The bench examples of document 01 that are marked P, so far P1 to P6, and two more tables: a question about a table,
--- and the only answer that the contract allows. `bench` in proofs/Bench.antt proves them all.
+-- The bench examples of document 01 that are marked P, 11 and 12 with them, and two more tables: a question, and the
+-- only answer that the contract allows. `bench` in proofs/Bench.antt proves them all.
 use mathlib.Core.Path.{_≡_}
 use mathlib.Core.Bool.{Bool, true, false}
 use mathlib.Core.List.{List, [], _∷_}
 use Prim.Native.Nat.{ℕ}
 use lib.Dec.{eqb}
+use lib.ListN.{take}
 use Rattle.records.specs.First.{pick}
 use Rattle.records.specs.Pieces.{padded}
 use Rattle.plan.specs.declared.Client.{Client}
@@ -13,6 +14,13 @@ use Rattle.plan.specs.Plan.{noClient}
 use Rattle.figures.specs.declared.Figures.{Figures}
 use Rattle.figures.specs.declared.Wait.{Wait}
 use Rattle.figures.specs.Figures.{figuresNumber, figureIn, IsFigures, waitNumber, waitIn, IsWaitFor}
+use Rattle.judge.specs.declared.Judged.{Judged}
+use Rattle.judge.specs.declared.Judged.the-variants as judged
+use Rattle.judge.specs.declared.Verdict.the-variants.{Late}
+use Rattle.judge.specs.Judge.{allOk, IsJudged}
+use Rattle.search.specs.declared.Answer.the-variants as answer
+use Rattle.search.specs.declared.Searched.{Searched}
+use Rattle.search.specs.Search.{idlePlan, IsSearched}
 
 -- a frame of f slots in which client 1 owns those of the list
 pub record Table : Type 0 where
@@ -38,12 +46,28 @@ tablePlan client t =
 abbrev pub little : Client
 little = record { p = 1; q = 65535; a = 65535; b = 1 }
 
--- a question about a table's client, with its answer
+-- what a client requires: the rate p/q and the latency a/b
+abbrev pub requiring : (p q a b : ℕ) → Client
+requiring p q a b = record { p = p; q = q; a = a; b = b }
+
+-- the search of f slots for n clients that all require this much
+unfoldable pub searchPlan : ℕ → ℕ → Client → Plan
+searchPlan f n client = idlePlan f n (padded (λ i. client) n 8 noClient)
+
+-- a question with its answer
 pub data Question : Type 0 where
-  -- m and L
+  -- a table's client: m and L
   figure : Table → (m L : ℕ) → Question
-  -- the wait for k
+  -- its wait for k
   waiting : Table → (k slots : ℕ) → Question
+  -- judging the table, whose client requires this much: accepted
+  accepted : Table → Client → Question
+  -- or late, from slot s on for j slots
+  late : Table → Client → (s j : ℕ) → Question
+  -- the search of f slots for n clients that require this much: the table found
+  found : (f n : ℕ) → Client → List ℕ → Question
+  -- or none
+  none : (f n : ℕ) → Client → Question
 
 -- every answer that the contract allows is this one, and no refusal
 abbrev pub Right : Question → Type 0
@@ -52,6 +76,13 @@ Right (figure t m L) =
     → (figuresNumber r ≡ 0) × (figureIn r .slots ≡ m) × (figureIn r .scaled ≡ L)
 Right (waiting t k slots) =
     (r : Wait) → IsWaitFor (tablePlan little t) 1 k r → (waitNumber r ≡ 0) × (waitIn r ≡ slots)
+Right (accepted t client) = (r : Judged) → IsJudged (tablePlan client t) r → r ≡ judged.Given allOk
+Right (late t client s j) =
+    (r : Judged) → IsJudged (tablePlan client t) r
+    → r ≡ judged.Given (record { client = 1; verdict = Late; start = s; length = j })
+Right (found f n client table) =
+    (r : Searched) → IsSearched (searchPlan f n client) r → (r .answer ≡ answer.Found) × (take f (r .owners) ≡ table)
+Right (none f n client) = (r : Searched) → IsSearched (searchPlan f n client) r → r .answer ≡ answer.None
 
 -- all of a list are right
 abbrev pub AllRight : List Question → Type 0
@@ -85,7 +116,8 @@ round = record { f = 6; slots = 1 ∷ 2 ∷ [] }
 abbrev pub figure3 : Table
 figure3 = record { f = 10; slots = 3 ∷ 6 ∷ 7 ∷ 8 ∷ 9 ∷ [] }
 
--- P1 to P6, the table of the second slip, and the paper's schedule
+-- P1 to P6, the table of the second slip, and the paper's schedule; P7 and P8, late by the stretch that begins in slot
+-- 3 and has one slot in five; P9 and P10, 11 and 12
 unfoldable pub questions : List Question
 questions =
     figure p1 2 8
@@ -99,4 +131,10 @@ questions =
     ∷ waiting p6 255 16383
     ∷ figure round 2 8
     ∷ figure figure3 5 20
+    ∷ accepted p4 (requiring 1 2 3 1)
+    ∷ late p4 (requiring 1 2 299 100) 3 5
+    ∷ found 3 2 (requiring 1 3 2 1) (0 ∷ 1 ∷ 2 ∷ [])
+    ∷ none 3 2 (requiring 1 3 3 2)
+    ∷ none 3 2 (requiring 1 2 2 1)
+    ∷ found 4 1 (requiring 1 2 1 1) (0 ∷ 1 ∷ 0 ∷ 1 ∷ [])
     ∷ []

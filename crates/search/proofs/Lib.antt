@@ -3,3 +3,5 @@ pub mod Fillings
 pub mod Sets
 pub mod Planting
 pub mod Mending
+pub mod Once
+pub mod Same

@@ -55,10 +55,7 @@ abbrev pub IsSearched : Plan → Searched → Type 0
 IsSearched plan r = SearchedAs plan (r .answer) (r .owners)
 
 -- an answer's number: "A refusal .. returns its number"; ""None" is no refusal"
-abbrev pub searchedNumber : Searched → ℕ
-searchedNumber r = number (r .answer)
-  where
-    number : Answer → ℕ
-    number answer.Found = 0
-    number answer.None = 0
-    number (answer.Refused k) = k
+abbrev pub searchedNumber : Answer → ℕ
+searchedNumber answer.Found = 0
+searchedNumber answer.None = 0
+searchedNumber (answer.Refused number) = number

@@ -1,0 +1,230 @@
+-- Tests that compute: whether a client is ok, whether a table is accepted, and whether a table is the best of all. Each
+-- says what its definition says, so that the examples of judging and searching are settled by working them out.
+-- Assumes nothing.
+use mathlib.Core.Path.{_≡_, refl, sym, _∙_}
+use mathlib.Core.Bool.{Bool, true, false}
+use mathlib.Core.List.{List, [], _∷_}
+use mathlib.Core.Logic.{inl, inr, ⊎-elim}
+use Prim.Native.Nat.{ℕ, zero, suc, _+_, _≤_, _<_}
+use native.Mathlib.Decide.{decLt, ℕ-discrete}
+use native.Mathlib.Omega.{arith}
+use lib.Dec.{leb, ltb, eqb}
+use lib.ListN.{length, getD, List·getD-eq-default}
+use borrow.Author.Tests.{leb-true, ltb-true, eqb-true, ltb-false, lt-ltb, eq-eqb, ne-eqb}
+use Rattle.frame.specs.Frame.{slotsOf, Frame}
+use Rattle.records.specs.First.{pick}
+use Rattle.records.specs.declared.Outcome.{Outcome}
+use Rattle.records.specs.declared.Outcome.the-variants.{Fine, Refused}
+use Rattle.records.proofs.Checks.{false-true, last-or-below}
+use Rattle.plan.specs.declared.Client.{Client}
+use Rattle.plan.specs.declared.Plan.{Plan}
+use Rattle.plan.specs.Plan.{clientOf, ownOf}
+use Rattle.figures.proofs.Laws.{frame-of}
+use Rattle.judge.specs.Rules.{hasRate, inTime, IsOk, IsLate}
+use Rattle.judge.specs.Judge.{Accepted}
+use Rattle.judge.proofs.Laws.{lengths-suffice, starts-suffice}
+use Rattle.explore.specs.Best.{Table, owned, LexLe, IsBest, NoTable}
+use Rattle.search.specs.Search.{withTable, AcceptedIn}
+
+-- ---- tests
+
+pub both : (a b : Bool) → pick a b false ≡ true → (a ≡ true) × (b ≡ true)
+both true b h = (refl, h)
+both false b h = false-true h
+
+pub failed : (a : Bool) → pick a false true ≡ true → a ≡ false
+failed true h = false-true h
+failed false h = refl
+
+-- all of P 0, .., P (n - 1)
+unfoldable pub allBelow : ℕ → (ℕ → Bool) → Bool
+allBelow zero P = true
+allBelow (suc n) P = pick (allBelow n P) (P n) false
+
+pub each-below : (n : ℕ) (P : ℕ → Bool) → allBelow n P ≡ true → (i : ℕ) → i < n → P i ≡ true
+unfolding allBelow
+each-below zero P h i l = absurd (omega arith)
+each-below (suc n) P h i l =
+    let b = both (allBelow n P) (P n) h in
+    ⊎-elim (λ (e : i ≡ n). rw e (b .1)) (λ (m : i < n). each-below n P (b .0) i m) (last-or-below i n l)
+
+below-each : (n : ℕ) (P : ℕ → Bool) → ((i : ℕ) → i < n → P i ≡ true) → allBelow n P ≡ true
+unfolding allBelow
+below-each zero P h = refl
+below-each (suc n) P h = rw (below-each n P (λ i l. h i (omega arith)), h n (omega arith))
+
+-- nothing is refused
+unfoldable pub fineTest : Outcome → Bool
+fineTest Fine = true
+fineTest (Refused k offset) = false
+
+pub fine-tested : (o : Outcome) → fineTest o ≡ true → o ≡ Fine
+unfolding fineTest
+fine-tested Fine h = refl
+fine-tested (Refused k offset) h = false-true h
+
+-- ---- a client
+
+module _ (x : Client) (own : ℕ → ℕ) (f : ℕ) where
+  -- enough rate, and the starts and lengths below f in time
+  unfoldable pub okTest : Bool
+  okTest = pick (hasRate x own f) (allBelow f (λ s. allBelow f (inTime x own f s))) false
+
+  pub ok-tested : Frame own f (slotsOf own f) → okTest ≡ true → IsOk x own f
+  unfolding okTest
+  ok-tested frame h =
+      let b = both (hasRate x own f) _ h in
+      let starts = each-below f _ (b .1) in
+      record {
+        rate = b .0;
+        time = starts-suffice x frame (b .0) (λ s l.
+            lengths-suffice x frame (b .0) s (each-below f (inTime x own f s) (starts s l)));
+      }
+
+  pub test-ok : IsOk x own f → okTest ≡ true
+  unfolding okTest
+  test-ok ok = rw (ok .rate) (below-each f _ (λ s l. below-each f (inTime x own f s) (λ j k. ok .time s j)))
+
+  -- the stretch of j slots from s on is the first that is not in time
+  unfoldable pub lateTest : ℕ → ℕ → Bool
+  lateTest s j =
+      pick (hasRate x own f)
+      (pick (pick (inTime x own f s j) false true)
+      (pick (allBelow s (λ t. allBelow f (inTime x own f t))) (allBelow j (inTime x own f s)) false) false) false
+
+  pub late-tested : Frame own f (slotsOf own f) → (s j : ℕ) → lateTest s j ≡ true → IsLate x own f s j
+  unfolding lateTest
+  late-tested frame s j h =
+      let a = both (hasRate x own f) _ h in
+      let b = both (pick (inTime x own f s j) false true) _ (a .1) in
+      let c = both (allBelow s (λ t. allBelow f (inTime x own f t))) _ (b .1) in
+      record {
+        rate = a .0;
+        fails = failed (inTime x own f s j) (b .0);
+        start = λ t i l.
+            lengths-suffice x frame (a .0) t (each-below f (inTime x own f t) (each-below s _ (c .0) t l)) i;
+        length = each-below j (inTime x own f s) (c .1);
+      }
+
+-- ---- a table
+
+unfoldable pub acceptTest : Plan → Bool
+acceptTest plan = allBelow (plan .n) (λ i. okTest (clientOf plan i) (ownOf plan (i + 1)) (plan .f))
+
+pub accept-tested : (plan : Plan) → 0 < plan .f → acceptTest plan ≡ true → Accepted plan
+unfolding acceptTest
+accept-tested plan f> h =
+    record {
+      each = λ i low l.
+          ok-tested (clientOf plan i) (ownOf plan (i + 1)) (plan .f) (frame-of plan (i + 1) f>)
+          (each-below (plan .n) _ h i l);
+    }
+
+pub test-accept : (plan : Plan) → Accepted plan → acceptTest plan ≡ true
+unfolding acceptTest
+test-accept plan accepted =
+    below-each (plan .n) _ (λ i l.
+    test-ok (clientOf plan i) (ownOf plan (i + 1)) (plan .f) (accepted .each i (omega arith) l))
+
+-- ---- every table
+
+unfoldable pub everyTable : ℕ → ℕ → (List ℕ → Bool) → Bool
+everyTable zero n Q = Q []
+everyTable (suc f) n Q = allBelow (suc n) (λ x. everyTable f n (λ t. Q (x ∷ t)))
+
+pub every-table : (f n : ℕ) (Q : List ℕ → Bool) → everyTable f n Q ≡ true → (u : List ℕ) → Table f n u → Q u ≡ true
+unfolding everyTable
+every-table zero n Q h [] t = h
+every-table zero n Q h (x ∷ u) t = absurd (omega (arith, t .long))
+every-table (suc f) n Q h [] t = absurd (omega (arith, t .long))
+every-table (suc f) n Q h (x ∷ u) t =
+    let rest : Table f n u = record { long = omega (arith, t .long); low = λ i. t .low (suc i) } in
+    let here = each-below (suc n) _ h x (omega (arith, t .low 0)) in
+    every-table f n (λ v. Q (x ∷ v)) here u rest
+
+-- ---- the best
+
+unfoldable pub lexTest : List ℕ → List ℕ → Bool
+lexTest [] u = true
+lexTest (x ∷ t) [] = false
+lexTest (x ∷ t) (y ∷ u) = pick (ltb x y) true (pick (eqb x y) (lexTest t u) false)
+
+lex-tested : (t u : List ℕ) → lexTest t u ≡ true → LexLe t u
+unfolding lexTest
+lex-tested [] u h = tt
+lex-tested (x ∷ t) [] h = false-true h
+lex-tested (x ∷ t) (y ∷ u) h = by (ltb x y) refl h (lex-tested t u)
+  where
+    by : (b : Bool) → ltb x y ≡ b → pick b true (pick (eqb x y) (lexTest t u) false) ≡ true
+        → (lexTest t u ≡ true → LexLe t u) → LexLe (x ∷ t) (y ∷ u)
+    by true e g rest = inl (ltb-true x y e)
+    by false e g rest = let a = both (eqb x y) (lexTest t u) g in inr (eqb-true x y (a .0), rest (a .1))
+
+-- t owns fewer than u, or as many and does not stand after it
+unfoldable pub betterTest : List ℕ → List ℕ → Bool
+betterTest t u = pick (ltb (owned t) (owned u)) true (pick (eqb (owned t) (owned u)) (lexTest t u) false)
+
+better-tested : (t u : List ℕ) → betterTest t u ≡ true → (owned t ≤ owned u) × (owned u ≡ owned t → LexLe t u)
+unfolding betterTest
+better-tested t u h = by (ltb (owned t) (owned u)) refl h
+  where
+    by : (b : Bool) → ltb (owned t) (owned u) ≡ b
+        → pick b true (pick (eqb (owned t) (owned u)) (lexTest t u) false) ≡ true
+        → (owned t ≤ owned u) × (owned u ≡ owned t → LexLe t u)
+    by true e g = let l = ltb-true (owned t) (owned u) e in (omega arith, λ same. absurd (omega arith))
+    by false e g =
+        let a = both (eqb (owned t) (owned u)) (lexTest t u) g in
+        (omega (arith, eqb-true (owned t) (owned u) (a .0)), λ same. lex-tested t u (a .1))
+
+module _ (plan : Plan) where
+  -- no table is accepted
+  unfoldable pub noneTest : Bool
+  noneTest = everyTable (plan .f) (plan .n) (λ u. pick (acceptTest (withTable plan u)) false true)
+
+  pub none-tested : noneTest ≡ true → NoTable (AcceptedIn plan) (plan .f) (plan .n)
+  unfolding noneTest
+  none-tested h u t accepted =
+      let no = failed (acceptTest (withTable plan u)) (every-table (plan .f) (plan .n) _ h u t) in
+      false-true (sym no ∙ test-accept (withTable plan u) accepted)
+
+  -- t is a table, is accepted, and is better than every other that is
+  unfoldable pub bestTest : List ℕ → Bool
+  bestTest t =
+      pick (eqb (length t) (plan .f))
+      (pick (allBelow (plan .f) (λ x. leb (getD t x 0) (plan .n)))
+      (pick (acceptTest (withTable plan t))
+      (everyTable (plan .f) (plan .n) (λ u. pick (acceptTest (withTable plan u)) (betterTest t u) true)) false) false)
+      false
+
+  better : (a b : Bool) → a ≡ true → pick a b true ≡ true → b ≡ true
+  better true b e h = h
+  better false b e h = false-true e
+
+  low-by : (t : List ℕ) (f n : ℕ) → length t ≡ f → allBelow f (λ x. leb (getD t x 0) n) ≡ true → (x : ℕ) → getD t x 0 ≤ n
+  low-by t f n e h x = by (decLt x f)
+    where
+      by : Dec (x < f) → getD t x 0 ≤ n
+      by (yes l) = leb-true (getD t x 0) n (each-below f _ h x l)
+      by (no l) = omega (arith, List·getD-eq-default t 0 {n = x} (omega arith))
+
+  pub best-tested : 0 < plan .f → (t : List ℕ) → bestTest t ≡ true → IsBest (AcceptedIn plan) (plan .f) (plan .n) t
+  unfolding bestTest
+  best-tested f> t h =
+      let a = both (eqb (length t) (plan .f)) _ h in
+      let b = both (allBelow (plan .f) (λ x. leb (getD t x 0) (plan .n))) _ (a .1) in
+      let c = both (acceptTest (withTable plan t)) _ (b .1) in
+      let long = eqb-true (length t) (plan .f) (a .0) in
+      record {
+        table = record { long = long; low = low-by t (plan .f) (plan .n) long (b .0) };
+        good = accept-tested (withTable plan t) f> (c .0);
+        fewest = λ u table good. beats u table good (c .1) .0;
+        least = λ u table good. beats u table good (c .1) .1;
+      }
+    where
+      beats : (u : List ℕ) → Table (plan .f) (plan .n) u → AcceptedIn plan u
+          → everyTable (plan .f) (plan .n) (λ v. pick (acceptTest (withTable plan v)) (betterTest t v) true) ≡ true
+          → (owned t ≤ owned u) × (owned u ≡ owned t → LexLe t u)
+      beats u table good every =
+          let accepted = test-accept (withTable plan u) good in
+          let here = every-table (plan .f) (plan .n) _ every u table in
+          better-tested t u (better (acceptTest (withTable plan u)) (betterTest t u) accepted here)

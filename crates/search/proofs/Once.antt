@@ -1,0 +1,47 @@
+-- Any two answers that the contract of the search allows are equal: there is one best table, and either there is one or
+-- there is none.
+-- Assumes nothing.
+use mathlib.Core.Path.{_≡_, refl, sym, ap, _∙_}
+use mathlib.Core.List.{List, _++_}
+use Prim.Native.Nat.{ℕ}
+use lib.ListN.{take, drop, take-append-drop}
+use Rattle.records.proofs.Checks.{refused-number, refused-fine}
+use Rattle.plan.specs.declared.Plan.{Plan}
+use Rattle.explore.specs.Best.{IsBest, NoTable}
+use Rattle.explore.proofs.Order.{best-one}
+use Rattle.search.specs.declared.Answer.{Answer}
+use Rattle.search.specs.declared.Answer.the-variants as answer
+use Rattle.search.specs.declared.Searched.{Searched}
+use Rattle.search.specs.Search.{searchCheck, AcceptedIn, SearchedAs, IsSearched}
+
+joined : (f : ℕ) (s t : List ℕ) → take f s ≡ take f t → drop f s ≡ drop f t → s ≡ t
+joined f s t e h =
+    sym (take-append-drop f s) ∙ ap (λ (l : List ℕ). l ++ drop f s) e ∙ ap (λ (l : List ℕ). take f t ++ l) h
+    ∙ take-append-drop f t
+
+not-none : (P : List ℕ → Type 0) (f n : ℕ) (t : List ℕ) → IsBest P f n t → NoTable P f n → ⊥
+not-none P f n t best none = none t (best .table) (best .good)
+
+module _ (plan : Plan) where
+  answers-one : (a b : Answer) (s t : List ℕ) → SearchedAs plan a s → SearchedAs plan b t → (a ≡ b) × (s ≡ t)
+  answers-one answer.Found answer.Found s t x y =
+      let best = best-one (AcceptedIn plan) (plan .f) (plan .n) _ _ (x .1 .0) (y .1 .0) in
+      (refl, joined (plan .f) s t best (x .1 .1 ∙ sym (y .1 .1)))
+  answers-one answer.Found answer.None s t x y = absurd (not-none (AcceptedIn plan) _ _ _ (x .1 .0) (y .1 .0))
+  answers-one answer.Found (answer.Refused k) s t x y = refused-fine (searchCheck plan) k (y .0) (x .0)
+  answers-one answer.None answer.Found s t x y = absurd (not-none (AcceptedIn plan) _ _ _ (y .1 .0) (x .1 .0))
+  answers-one answer.None answer.None s t x y = (refl, x .1 .1 ∙ sym (y .1 .1))
+  answers-one answer.None (answer.Refused k) s t x y = refused-fine (searchCheck plan) k (y .0) (x .0)
+  answers-one (answer.Refused k) answer.Found s t x y = refused-fine (searchCheck plan) k (x .0) (y .0)
+  answers-one (answer.Refused k) answer.None s t x y = refused-fine (searchCheck plan) k (x .0) (y .0)
+  answers-one (answer.Refused j) (answer.Refused k) s t x y =
+      let number = refused-number (searchCheck plan) j (x .0) ∙ sym (refused-number (searchCheck plan) k (y .0)) in
+      (ap answer.Refused number, x .1 ∙ sym (y .1))
+
+  made-alike : (a b : Answer) (s t : List ℕ) → (a ≡ b) × (s ≡ t)
+      → _≡_ {A = Searched} (record { answer = a; owners = s }) (record { answer = b; owners = t })
+  made-alike a b s t e = rw (e .0, e .1)
+
+  pub searched-once : (r r′ : Searched) → IsSearched plan r → IsSearched plan r′ → r ≡ r′
+  searched-once r r′ is is′ =
+      made-alike _ _ _ _ (answers-one (r .answer) (r′ .answer) (r .owners) (r′ .owners) is is′)
