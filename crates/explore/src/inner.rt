@@ -51,14 +51,14 @@ fn longer(front: Front, n: usize, owner: usize) -> Front
     ensures { λ r. ⌜ IsFront n r × (r .long ≡ front .long + 1) × (ownersOf r ≡ ownersOf front ++ (owner ∷ [])) ⌝ }
 {
     let long = front.long;
-    let given = with_place(front.given, owner);
+    let count = with_place(front.given, owner);
     let above = front.nodes;
     let nodes = children(above, n, owner);
     let mut owners = front.owners;
     owners[long] = owner as u8;
     Front {
         long: long + 1,
-        given: given,
+        given: count,
         owners: owners,
         nodes: nodes,
     }

@@ -2,21 +2,22 @@
 -- a stretch in time. So starts and lengths below f suffice. And every stretch is in time exactly when L × b ≤ a × m,
 -- so that the verdict and the figures agree.
 -- Assumes nothing.
-use mathlib.Core.Path.{_≡_, refl, ap, subst}
-use mathlib.Core.Bool.{Bool, true}
+use mathlib.Core.Path.{_≡_, refl, sym, ap, _∙_, subst}
+use mathlib.Core.Bool.{Bool, true, false}
 use Prim.Native.Nat.{ℕ, zero, suc, _+_, _*_, _/_, _%_, _≤_, _<_}
-use native.Mathlib.Nat.{mod-add-div', mod-lt, suc-mul, mul-le-mul-right}
-use native.Mathlib.Decide.{ℕ-discrete}
+use native.Mathlib.Nat.{mod-add-div', mod-lt, suc-mul, mul-le-mul-right, le-dest}
+use native.Mathlib.Decide.{ℕ-discrete, decLt}
 use native.Mathlib.Omega.{arith}
 use borrow.Author.Tests.{le-leb, leb-true}
 use Rattle.frame.specs.Frame.{slotsOf, within, Frame, IsScaled}
-use Rattle.frame.proofs.Within.{within-add, within-frame, within-mod}
+use Rattle.frame.proofs.Within.{within-add, within-frame, within-later, within-mod}
+use Rattle.records.proofs.Checks.{false-true}
 use Rattle.plan.specs.declared.Client.{Client}
 use Rattle.plan.specs.declared.Plan.{Plan}
 use Rattle.plan.specs.Plan.{clientOf, ownOf}
 use Rattle.judge.specs.declared.Verdict.{Verdict}
 use Rattle.judge.specs.declared.Verdict.the-variants.{Ok, Rate, Late}
-use Rattle.judge.specs.Rules.{enough, covers, hasRate, inTime, IsVerdict}
+use Rattle.judge.specs.Rules.{enough, covers, hasRate, inTime, IsLate, IsVerdict}
 use Rattle.judge.specs.Judge.{ClientOk, AllOk, First, JudgedAs}
 
 -- ---- enough rate
@@ -29,23 +30,32 @@ pub rate-pass : (x : Client) (f m : ℕ) → x .p * f ≤ m * x .q → enough x 
 unfolding enough
 rate-pass x f m h = le-leb (x .p * f) (m * x .q) h
 
+-- ---- one stretch in time
+
+covers-true : (x : Client) (f m j w : ℕ) → covers x f m j w ≡ true → m * j * x .b ≤ x .a * m + f * w * x .b
+unfolding covers
+covers-true x f m j w h = leb-true (m * j * x .b) (x .a * m + f * w * x .b) h
+
+covers-pass : (x : Client) (f m j w : ℕ) → m * j * x .b ≤ x .a * m + f * w * x .b → covers x f m j w ≡ true
+unfolding covers
+covers-pass x f m j w h = le-leb (m * j * x .b) (x .a * m + f * w * x .b) h
+
 -- ---- a whole frame more
 
 -- j slots with w of the client's are in time, so are f more with all of its m
 pub covers-round : (x : Client) (f m j w : ℕ) → enough x f m ≡ true → covers x f m j w ≡ true
     → covers x f m (j + f) (w + m) ≡ true
-unfolding covers
-covers-round x f m j w rate h =
-    le-leb (m * (j + f) * x .b) (x .a * m + f * (w + m) * x .b)
-    (omega (arith, leb-true (m * j * x .b) (x .a * m + f * w * x .b) h))
+covers-round x f m j w rate h = covers-pass x f m (j + f) (w + m) (omega (arith, covers-true x f m j w h))
 
 module _ (x : Client) {own : ℕ → ℕ} {f : ℕ} (frame : Frame own f (slotsOf own f)) (rate : hasRate x own f ≡ true) where
+  frame-later : (s j : ℕ) → inTime x own f s j ≡ true → inTime x own f s (j + f) ≡ true
+  frame-later s j h = rw (within-add own s j f, within-frame frame (s + j)) (covers-round x f _ _ _ rate h)
+
   frames-later : (s j n : ℕ) → inTime x own f s j ≡ true → inTime x own f s (j + n * f) ≡ true
   frames-later s j zero h = let e : j + zero * f ≡ j = omega arith in rw e h
   frames-later s j (suc n) h =
       let e : j + suc n * f ≡ j + n * f + f = omega (arith, suc-mul n f) in
-      rw (e, within-add own s (j + n * f) f, within-frame frame (s + (j + n * f)))
-      (covers-round x f _ _ _ rate (frames-later s j n h))
+      rw e (frame-later s (j + n * f) (frames-later s j n h))
 
   -- all lengths from one start
   pub lengths-suffice : (s : ℕ) → ((j : ℕ) → j < f → inTime x own f s j ≡ true) → (j : ℕ) → inTime x own f s j ≡ true
@@ -57,27 +67,49 @@ module _ (x : Client) {own : ℕ → ℕ} {f : ℕ} (frame : Frame own f (slotsO
   pub starts-suffice : ((s : ℕ) → s < f → (j : ℕ) → inTime x own f s j ≡ true) → (s j : ℕ) → inTime x own f s j ≡ true
   starts-suffice h s j = rw (← within-mod frame s j) (h (s % f) (mod-lt s (frame .f>)) j)
 
+-- ---- the first stretch that is late lies in the frame
+
+module _ (x : Client) {own : ℕ → ℕ} {f s j : ℕ} (frame : Frame own f (slotsOf own f)) (late : IsLate x own f s j) where
+  pub late-start : s < f
+  late-start = by (decLt s f)
+    where
+      by : Dec (s < f) → s < f
+      by (yes l) = l
+      by (no h) =
+          let before : (t : ℕ) × (f + t ≡ s) = le-dest (omega arith) in
+          let t = before .0 in
+          let e : t + f ≡ s = omega (arith, before .1) in
+          let moved = ap (λ (k : ℕ). within own k j) e in
+          let fails : inTime x own f t j ≡ false = rw (← within-later frame t j, moved) (late .fails) in
+          false-true (sym fails ∙ late .start t j (omega (arith, frame .f>)))
+
+  pub late-length : j < f
+  late-length = by (decLt j f)
+    where
+      by : Dec (j < f) → j < f
+      by (yes l) = l
+      by (no h) =
+          let before : (i : ℕ) × (f + i ≡ j) = le-dest (omega arith) in
+          let i = before .0 in
+          let e : i + f ≡ j = omega (arith, before .1) in
+          let passes = late .length i (omega (arith, frame .f>)) in
+          let longer : inTime x own f s (i + f) ≡ true = frame-later x frame (late .rate) s i passes in
+          false-true (sym (late .fails) ∙ rw e at longer)
+
 -- ---- the rule by L
 
 module _ (x : Client) (own : ℕ → ℕ) (f L : ℕ) (scaled : IsScaled own f (slotsOf own f) L) where
   pub in-time-by-scaled : L * x .b ≤ x .a * slotsOf own f → (s j : ℕ) → inTime x own f s j ≡ true
-  unfolding covers
   in-time-by-scaled h s j =
-      let m = slotsOf own f in
-      le-leb (m * j * x .b) (x .a * m + f * within own s j * x .b)
+      covers-pass x f (slotsOf own f) j (within own s j)
       (omega (arith, mul-le-mul-right (x .b) (scaled .bounded .bound s j)))
 
   pub scaled-by-in-time : ((s j : ℕ) → inTime x own f s j ≡ true) → L * x .b ≤ x .a * slotsOf own f
-  unfolding covers
   scaled-by-in-time h =
-      let m = slotsOf own f in
       let r = scaled .reached in
       let w = within own (r .start) (r .long) in
-      omega (
-        arith,
-        leb-true (m * r .long * x .b) (x .a * m + f * w * x .b) (h (r .start) (r .long)),
-        ap (λ (k : ℕ). k * x .b) (r .there),
-      )
+      let there = covers-true x f (slotsOf own f) (r .long) w (h (r .start) (r .long)) in
+      omega (arith, there, ap (λ (k : ℕ). k * x .b) (r .there))
 
 -- ---- what a test found, said of the client
 

@@ -12,7 +12,7 @@ ghost use Rattle.plan.specs.Plan.{clientOf, ownOf};
 ghost use Rattle.judge.specs.Rules.{enough, covers, IsVerdict};
 ghost use Rattle.judge.specs.Judge.{IsJudgement};
 
-// A product, one of its numbers from a client's requirements.
+// A product with a number of a client's requirements; x may be such a product already.
 fn times(x: usize, y: u16) -> usize
     requires { ⌜ x ≤ 268435456 ⌝ }
     ensures { λ r. ⌜ (r ≡ x * y) × (r ≤ 17592186044416) ⌝ }

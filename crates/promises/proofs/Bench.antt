@@ -1,5 +1,5 @@
--- The bench examples are right: a test of each is computed, and says that the answer is one that the contract allows; and
--- it allows no other.
+-- The bench examples are right: a test of each is computed, and says that the answer is one that the contract allows;
+-- and it allows no other.
 -- Assumes nothing.
 use mathlib.Core.Path.{_≡_, refl, sym, ap, fun-ext}
 use mathlib.Core.Bool.{Bool, true, false}

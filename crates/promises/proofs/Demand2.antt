@@ -28,7 +28,7 @@ use Rattle.plan.specs.declared.Client.{Client}
 use Rattle.plan.specs.declared.Plan.{Plan}
 use Rattle.plan.specs.Plan.{clientOf, ownOf, Same, used}
 use Rattle.plan.specs.Check.{planCheck}
-use Rattle.plan.proofs.Laws.{InBounds, Checked, plan-pass, used-same, same-used, same-check}
+use Rattle.plan.proofs.Laws.{InBounds, Checked, plan-fine, plan-pass, used-same, same-used, same-check}
 use Rattle.stream.specs.Kind.{rowsOf}
 use Rattle.stream.specs.Read.{planOf, planIf, readCheck, readOf}
 use Rattle.stream.specs.Trip.{Held}
@@ -49,11 +49,11 @@ use Rattle.judge.specs.declared.Judged.{Judged}
 use Rattle.judge.specs.declared.Judged.the-variants as judged
 use Rattle.judge.specs.declared.Judgement.{Judgement}
 use Rattle.judge.specs.declared.Verdict.{Verdict}
-use Rattle.judge.specs.declared.Verdict.the-variants.{Ok}
+use Rattle.judge.specs.declared.Verdict.the-variants.{Ok, Late}
 use Rattle.judge.specs.declared.Verdicts.the-variants as verdicts
 use Rattle.judge.specs.Rules.{IsOk, IsVerdict}
 use Rattle.judge.specs.Judge.{ClientOk, Accepted, JudgedAs, IsJudged, allOk, IsVerdictOf}
-use Rattle.judge.proofs.Laws.{rate-true, rate-pass, in-time-by-scaled, scaled-by-in-time}
+use Rattle.judge.proofs.Laws.{rate-true, rate-pass, late-start, late-length, in-time-by-scaled, scaled-by-in-time}
 use Rattle.judge.proofs.Once.{judgement-one, judged-once, verdict-one}
 use Rattle.explore.specs.Best.{NoTable}
 use Rattle.search.specs.declared.Answer.{Answer}
@@ -195,6 +195,24 @@ judge-accepts plan found is = (by (found .verdict) (is .1), back)
     back accepted =
         judgement-one plan 0 (plan .n) (found .verdict) Ok _ _ _ _ _ _ (is .1) (accepted, refl, refl, refl) .0
 
+-- "and, if `late`, that stretch's start and length": a client of the plan, and a stretch that starts in the frame and
+-- is shorter than it
+pub late-in-frame : (plan : Plan) (found : Judgement) → IsJudged plan (judged.Given found) → found .verdict ≡ Late
+    → (1 ≤ found .client) × (found .client ≤ plan .n) × (found .start < plan .f) × (found .length < plan .f)
+late-in-frame plan found is e = by (found .verdict) (is .1) e
+  where
+    by : (v : Verdict) → JudgedAs plan 0 (plan .n) v (found .client) (found .start) (found .length) → v ≡ Late
+        → (1 ≤ found .client) × (found .client ≤ plan .n) × (found .start < plan .f) × (found .length < plan .f)
+    by v h late =
+        let first : JudgedAs plan 0 (plan .n) Late _ _ _ = rw late at h in
+        let i = first .place in
+        let frame = frame-of plan (i + 1) (plan-fine plan (is .0) .bounds .f-low) in (
+          omega (arith, first .client),
+          omega (arith, first .client, first .high),
+          late-start (clientOf plan i) frame (first .fails),
+          late-length (clientOf plan i) frame (first .fails),
+        )
+
 -- a client's verdict and its figures agree: it is `ok` exactly when m × q ≥ p × f and L × b ≤ a × m
 pub verdict-figures : (plan : Plan) (c : ℕ) (verdict : Verdict) (figure : Figure)
     → IsVerdictOf plan c (verdicts.Given verdict) → IsFigures plan c (figures.Given figure)
@@ -206,9 +224,10 @@ verdict-figures plan c verdict figure is fig =
     let own = ownOf plan c in
     let right = fig .figure (given-fine plan c figure fig) in
     let scaled = right .scaled in
-    let there = by verdict (is .1) in
     rw (right .slots) (
-      λ e. let ok = there e in (rate-true x (plan .f) _ (ok .rate), scaled-by-in-time x own (plan .f) _ scaled (ok .time)),
+      λ e.
+          let ok = by verdict (is .1) e in
+          (rate-true x (plan .f) _ (ok .rate), scaled-by-in-time x own (plan .f) _ scaled (ok .time)),
       λ h.
           verdict-one x own (plan .f) verdict Ok (is .1)
           (record { rate = rate-pass x (plan .f) _ (h .0); time = in-time-by-scaled x own (plan .f) _ scaled (h .1) }),

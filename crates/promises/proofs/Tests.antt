@@ -6,11 +6,11 @@ use mathlib.Core.Bool.{Bool, true, false}
 use mathlib.Core.List.{List, [], _∷_}
 use mathlib.Core.Logic.{inl, inr, ⊎-elim}
 use Prim.Native.Nat.{ℕ, zero, suc, _+_, _≤_, _<_}
-use native.Mathlib.Decide.{decLt, ℕ-discrete}
+use native.Mathlib.Decide.{decLt}
 use native.Mathlib.Omega.{arith}
 use lib.Dec.{leb, ltb, eqb}
 use lib.ListN.{length, getD, List·getD-eq-default}
-use borrow.Author.Tests.{leb-true, ltb-true, eqb-true, ltb-false, lt-ltb, eq-eqb, ne-eqb}
+use borrow.Author.Tests.{leb-true, ltb-true, eqb-true}
 use Rattle.frame.specs.Frame.{slotsOf, Frame}
 use Rattle.records.specs.First.{pick}
 use Rattle.records.specs.declared.Outcome.{Outcome}
@@ -200,7 +200,8 @@ module _ (plan : Plan) where
   better true b e h = h
   better false b e h = false-true e
 
-  low-by : (t : List ℕ) (f n : ℕ) → length t ≡ f → allBelow f (λ x. leb (getD t x 0) n) ≡ true → (x : ℕ) → getD t x 0 ≤ n
+  low-by : (t : List ℕ) (f n : ℕ) → length t ≡ f → allBelow f (λ x. leb (getD t x 0) n) ≡ true → (x : ℕ)
+      → getD t x 0 ≤ n
   low-by t f n e h x = by (decLt x f)
     where
       by : Dec (x < f) → getD t x 0 ≤ n

@@ -11,11 +11,15 @@ use Rattle.explore.specs.Needs.{nodeOf, needAt}
 use Rattle.search.specs.Search.{withTable}
 use Rattle.search.specs.Mend.{filled}
 
--- what a client needs beside a set of idle slots on which it has this verdict: nothing, or more than eight places
+-- more places than there are
+abbrev pub hopeless : ℕ
+hopeless = 9
+
+-- what a client needs beside a set of idle slots on which it has this verdict
 abbrev pub neededBy : Verdict → ℕ
 neededBy Ok = 0
-neededBy Rate = 9
-neededBy Late = 9
+neededBy Rate = hopeless
+neededBy Late = hopeless
 
 -- the number is 0 exactly when client i + 1 is ok with its idle slots among these owners
 pub record Suits (plan : Plan) (i : ℕ) (owners : List ℕ) (number : ℕ) : Type 0 where

@@ -28,6 +28,9 @@ pub const MOST_SLOTS: usize = 8;
 
 pub const MOST_CLIENTS: usize = 4;
 
+// More places than there are: what a client needs where a set of idle slots will not do.
+const HOPELESS: u8 = 9;
+
 // The requirements' checks, then 16.
 pub fn check_search(plan: Plan) -> Outcome
     ensures { λ r. ⌜ r ≡ searchCheck plan ⌝ }
@@ -96,14 +99,14 @@ fn set_of(client: usize, g: usize, node: usize) -> [u8; 8]
     owners
 }
 
-// What a client needs beside a set of idle slots on which it has this verdict: nothing, or more than eight places.
+// What a client needs beside a set of idle slots on which it has this verdict.
 fn needed(verdict: Verdict) -> u8
     ensures { λ r. ⌜ r ≡ neededBy verdict ⌝ }
 {
     match verdict {
         Verdict::Ok => 0,
-        Verdict::Rate => 9,
-        Verdict::Late => 9,
+        Verdict::Rate => HOPELESS,
+        Verdict::Late => HOPELESS,
     }
 }
 

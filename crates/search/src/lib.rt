@@ -55,6 +55,6 @@ pub fn search(f: usize, n: usize, clients: [Client; 8]) -> Searched
     }
     Searched {
         answer: Answer::None,
-        owners: owners,
+        owners: idle,
     }
 }

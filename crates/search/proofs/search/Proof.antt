@@ -2,10 +2,11 @@
 -- answer.
 -- Assumes nothing.
 use mathlib.Core.Path.{refl, sym, _∙_}
+use mathlib.Core.Bool.{false}
 use native.Mathlib.Omega.{arith}
 use borrow.Author.Needs.{needs}
 use Rattle.records.proofs.Checks.{refuses}
-use Rattle.search.specs.Search.{idlePlan}
+use Rattle.search.specs.Search.{idlePlan, AcceptedIn, Finds}
 use Rattle.search.proofs.Questions.{search-fine}
 use Rattle.search.proofs.Mending.{idle-low, idle-most, mends-accepted}
 use Rattle.search.proofs.search.Statement.{statement}
@@ -48,7 +49,9 @@ returns-3 c =
     let mend = c .before .before .mend in
     let told = c .before .before .before .enum-told .given .1 in
     let found = mends-accepted (args .f) (args .n) (args .clients) (mend .result .found) _ (mend .ensures) in
-    (sym (c .before .before .before .before .before .check-search .ensures) ∙ told, rw (c .if1 .left) at found)
+    let none : Finds (AcceptedIn (idlePlan (args .f) (args .n) (args .clients))) (args .f) (args .n) false _ =
+    rw (c .if1 .left) at found in
+    (sym (c .before .before .before .before .before .check-search .ensures) ∙ told, (none .0, refl))
 
 pub search-spec : {M : Type 1} → statement M
 search-spec =

@@ -67,8 +67,9 @@ slots-requires c κs = omega arith
 
 has-rate-requires : tie.Need-has-rate-requires Inv-lengths μ-lengths Inv-starts μ-starts Inv-clients μ-clients
 has-rate-requires c κs =
-    let args = c .before .before .before .before .before .before .args in
-    (omega arith, slots-small (args .plan) _ _ (c .slots .ensures) (omega arith))
+    let plan = c .before .before .before .before .before .before .args .plan in
+    let client = c .before .before .before .clients .i + 1 in
+    (omega arith, omega (arith, slots-small plan client _ (c .slots .ensures) (omega arith)))
 
 add-t23 : tie.Need-add-t23 Inv-lengths μ-lengths Inv-starts μ-starts Inv-clients μ-clients
 add-t23 c = omega arith
@@ -81,7 +82,7 @@ lengths-holds c =
     let in-starts = c .before in
     let plan = in-starts .before .before .before .before .before .before .before .before .before .args .plan in
     let place = place-zero (plan .f) (in-starts .starts .s) (omega arith) in
-    (omega arith, sym (within-none _ _), place, λ k l. absurd (omega arith), refl)
+    (omega arith, sym (within-none _ _), omega (arith, place), λ k l. absurd (omega arith), refl)
 
 in-time-requires : tie.Need-in-time-requires Inv-lengths μ-lengths Inv-starts μ-starts Inv-clients μ-clients
 in-time-requires c κs =
@@ -175,7 +176,7 @@ starts-again c =
     let plan = in-clients .before .before .before .args .plan in
     let i = in-clients .clients .i in
     let x = clientOf plan i in
-    let tested = rate-tested x (ownOf plan (i + 1)) (plan .f) _ _ (rate .ensures) (slots .ensures) in
+    let tested = rate-tested x (ownOf plan (i + 1)) (plan .f) _ _ (rate .ensures) (omega (arith, slots .ensures)) in
     let enough = tested ∙ not-false (rate .result) (in-starts .before .if1 .left) in
     let frame = frame-of plan (i + 1) (omega arith) in
     let here = lengths-suffice x frame enough (starts .s) (λ k l. lengths .inv .3 k (omega arith)) in
@@ -198,7 +199,7 @@ clients-again c =
     let i = clients .i in
     let x = clientOf plan i in
     let slots = c .before .before .before .before .slots in
-    let tested = rate-tested x (ownOf plan (i + 1)) (plan .f) _ _ (rate .ensures) (slots .ensures) in
+    let tested = rate-tested x (ownOf plan (i + 1)) (plan .f) _ _ (rate .ensures) (omega (arith, slots .ensures)) in
     let enough = tested ∙ not-false (rate .result) (c .before .before .if1 .left) in
     let frame = frame-of plan (i + 1) (omega arith) in
     let time = starts-suffice x frame enough (λ t l. starts .inv .1 t (omega arith)) in (
@@ -221,7 +222,8 @@ returns-2 c =
     let plan = args .plan in
     let i = clients .i in
     let slots = c .before .before .slots in
-    let tested = rate-tested (clientOf plan i) (ownOf plan (i + 1)) (plan .f) _ _ (rate .ensures) (slots .ensures) in
+    let x = clientOf plan i in
+    let tested = rate-tested x (ownOf plan (i + 1)) (plan .f) _ _ (rate .ensures) (omega (arith, slots .ensures)) in
     let lacks = tested ∙ not-true (rate .result) (c .if1 .taken) in
     (first-at plan (args .from) (args .to) i _ (clients .inv .0) (omega arith) (clients .inv .1) lacks, refl, refl)
 
@@ -242,7 +244,7 @@ returns-3 c =
     let own = ownOf plan (i + 1) in
     let s = starts .s in
     let j = lengths .j in
-    let tested = rate-tested x own (plan .f) _ _ (rate .ensures) (slots .ensures) in
+    let tested = rate-tested x own (plan .f) _ _ (rate .ensures) (omega (arith, slots .ensures)) in
     let enough = tested ∙ not-false (rate .result) (in-starts .before .if1 .left) in
     let found = stretch-tested x own (plan .f) _ s j _ _ (test .ensures) (slots .ensures) (lengths .inv .1) in
     let fails = found ∙ not-true (test .result) (c .if2 .taken) in

@@ -3,6 +3,7 @@
 use mathlib.Core.Path.{_≡_}
 use Prim.Native.Nat.{ℕ, _*_}
 use native.Mathlib.Nat.{mul-comm}
+use native.Mathlib.Omega.{arith}
 use lib.Dec.{leb}
 use borrow.Author.Needs.{needs}
 use Rattle.plan.specs.declared.Client.{Client}
@@ -23,7 +24,10 @@ compared x f m due got e h = rw (e, h, mul-comm f (x .p))
 returns : tie.Need-returns
 returns c =
     let args = c .before .before .args in
-    compared (args .required) (args .f) (args .m) _ _ (c .before .times .ensures .0) (c .times2 .ensures .0)
+    let x = args .required in
+    let due : c .before .times .result ≡ args .f * x .p = omega (arith, c .before .times .ensures .0) in
+    let got : c .times2 .result ≡ args .m * x .q = omega (arith, c .times2 .ensures .0) in
+    compared x (args .f) (args .m) _ _ due got
 
 pub has-rate-spec : {M : Type 1} → statement M
 has-rate-spec = tie.close (tie.spec times-requires times-requires-2 returns)

@@ -42,8 +42,13 @@ compared x f m j w due late got d l g = rw (d, l, g, mul-comm m (x .a))
 returns : tie.Need-returns
 returns c =
     let args = c .before .before .before .args in
-    compared (args .required) (args .f) (args .m) (args .j) (args .w) _ _ _ (c .before .before .times .ensures .0)
-    (c .before .times2 .ensures .0) (c .times3 .ensures .0)
+    let x = args .required in
+    let times = c .before .before .times in
+    let times2 = c .before .times2 in
+    let due : times .result ≡ args .m * args .j * x .b = omega (arith, times .ensures .0) in
+    let late : times2 .result ≡ args .m * x .a = omega (arith, times2 .ensures .0) in
+    let got : c .times3 .result ≡ args .f * args .w * x .b = omega (arith, c .times3 .ensures .0) in
+    compared x (args .f) (args .m) (args .j) (args .w) _ _ _ due late got
 
 pub in-time-spec : {M : Type 1} → statement M
 in-time-spec =
