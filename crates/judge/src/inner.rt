@@ -15,7 +15,7 @@ ghost use Rattle.judge.specs.Judge.{IsJudgement};
 // A product with a number of a client's requirements; x may be such a product already.
 fn times(x: usize, y: u16) -> usize
     requires { ⌜ x ≤ 268435456 ⌝ }
-    ensures { λ r. ⌜ (r ≡ x * y) × (r ≤ 17592186044416) ⌝ }
+    ensures { λ r. ⌜ (r ≡ x * y) × (r ≤ x * 65535) ⌝ }
 {
     x * (y as usize)
 }

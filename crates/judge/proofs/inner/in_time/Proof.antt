@@ -32,7 +32,9 @@ times-requires-3 c κs =
     omega (arith, product-small (a .f) (a .w) (omega arith) (omega arith))
 
 add-result : tie.Need-add-result
-add-result c = search needs
+add-result c =
+    let a = c .before .before .before .args in
+    omega (arith, product-small (a .f) (a .w) (omega arith) (omega arith))
 
 compared : (x : Client) (f m j w due late got : ℕ) → due ≡ m * j * x .b → late ≡ m * x .a → got ≡ f * w * x .b
     → leb due (late + got) ≡ covers x f m j w
