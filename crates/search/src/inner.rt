@@ -1,6 +1,8 @@
 // The best filling of a plan's idle slots. Whether a client is ok depends on its own slots alone. So each client is judged
 // once on every set of idle slots, and what it needs beside the first of them stands in its tree of needs; `explore`
 // then finds the best filling. The trees are filled from the end, since the nodes below a node stand after it.
+use super::MOST_CLIENTS;
+use super::MOST_SLOTS;
 use super::Mended;
 use explore::inner::best_filling;
 use figures::inner::owned_by;
@@ -22,11 +24,6 @@ ghost use Rattle.explore.specs.Needs.{childOf, nodeOf};
 ghost use Rattle.search.specs.Search.{searchCheck, Finds};
 ghost use Rattle.search.specs.Mend.{Mends, idleOf, slotOf};
 ghost use Rattle.search.specs.Trees.{neededBy, Suits, Entry, Planted};
-
-// The longest frame and the most clients that are searched.
-pub const MOST_SLOTS: usize = 8;
-
-pub const MOST_CLIENTS: usize = 4;
 
 // More places than there are: what a client needs where a set of idle slots will not do.
 const HOPELESS: u8 = 9;

@@ -26,6 +26,12 @@ pub struct Mended {
     pub owners: [u8; 64],
 }
 
+// The longest frame that is searched.
+pub const MOST_SLOTS: usize = 8;
+
+// The most clients that it is searched for.
+pub const MOST_CLIENTS: usize = 4;
+
 // The best table of f slots for n clients with these requirements: 5, 6, 8, 9, then 16.
 pub fn search(f: usize, n: usize, clients: [Client; 8]) -> Searched
     ensures { λ r. ⌜ IsSearched (idlePlan f n clients) r ⌝ }
