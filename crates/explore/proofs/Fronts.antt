@@ -2,7 +2,6 @@
 -- with one place more.
 -- Assumes nothing.
 use mathlib.Core.Path.{_≡_, refl, sym, ap, _∙_}
-use mathlib.Core.Bool.{Bool, true, false}
 use mathlib.Core.List.{List, [], _∷_, _++_}
 use Prim.Native.Nat.{ℕ, zero, suc, _+_, _≤_, _<_}
 use native.Mathlib.Numerals.{add-one}
@@ -11,6 +10,7 @@ use lib.Dec.{eqb}
 use lib.ListN.{length, getD, set, take, replicate, length-append, getD-replicate}
 use lib.Seq.{take-suc-set}
 use Rattle.records.specs.First.{pick}
+use Rattle.records.proofs.Checks.{none-or-one}
 use Rattle.explore.specs.declared.Front.{Front}
 use Rattle.explore.specs.Best.{Table, owned}
 use Rattle.explore.specs.Needs.{childOf, nodeOf, needOf}
@@ -24,10 +24,6 @@ unfolding owned
 owned-append [] v = omega arith
 owned-append (owner ∷ p) v = omega (arith, owned-append p v)
 
-none-or-one : (b : Bool) → pick b 0 1 ≤ 1
-none-or-one true = omega arith
-none-or-one false = omega arith
-
 pub owned-most : (p : List ℕ) → owned p ≤ length p
 unfolding owned
 owned-most [] = omega arith
@@ -39,16 +35,16 @@ owned-more : (p : List ℕ) (owner : ℕ) → owned (p ++ (owner ∷ [])) ≡ ow
 unfolding owned
 owned-more p owner = omega (arith, owned-append p (owner ∷ []))
 
-low-more : (p : List ℕ) (owner n : ℕ) → owner ≤ n → ((x : ℕ) → getD p x 0 ≤ n)
+most-more : (p : List ℕ) (owner n : ℕ) → owner ≤ n → ((x : ℕ) → getD p x 0 ≤ n)
     → (x : ℕ) → getD (p ++ (owner ∷ [])) x 0 ≤ n
-low-more [] owner n l low zero = l
-low-more [] owner n l low (suc x) = omega arith
-low-more (first ∷ p) owner n l low zero = low 0
-low-more (first ∷ p) owner n l low (suc x) = low-more p owner n l (λ i. low (suc i)) x
+most-more [] owner n l most zero = l
+most-more [] owner n l most (suc x) = omega arith
+most-more (first ∷ p) owner n l most zero = most 0
+most-more (first ∷ p) owner n l most (suc x) = most-more p owner n l (λ i. most (suc i)) x
 
 table-more : (k n : ℕ) (p : List ℕ) (owner : ℕ) → owner ≤ n → Table k n p → Table (k + 1) n (p ++ (owner ∷ []))
 table-more k n p owner l t =
-    record { long = omega (arith, length-append p (owner ∷ []), t .long); low = low-more p owner n l (t .low) }
+    record { long = omega (arith, length-append p (owner ∷ []), t .long); most = most-more p owner n l (t .most) }
 
 -- ---- fronts
 
@@ -58,7 +54,7 @@ unfolding owned
 front-none n l =
     record {
       long = omega arith;
-      table = record { long = refl; low = λ x. omega arith };
+      table = record { long = refl; most = λ x. omega arith };
       given = refl;
       nodes = λ i m. getD-replicate 8 i 1 0 (omega arith) ∙ sym (node-none (i + 1));
     }

@@ -74,7 +74,7 @@ past-map R R′ q q′ k n f [] u t h = f u (rw zero-add at t) h
 past-map R R′ q q′ k n f (y ∷ p) [] t h = h
 past-map R R′ q q′ k n f (y ∷ p) (x ∷ u) t (inl l) = inl l
 past-map R R′ q q′ k n f (y ∷ p) (x ∷ u) t (inr h) =
-    let rest : Table (length p + k) n u = record { long = omega (arith, t .long); low = λ i. t .low (suc i) } in
+    let rest : Table (length p + k) n u = record { long = omega (arith, t .long); most = λ i. t .most (suc i) } in
     inr (h .0, past-map R R′ q q′ k n f p u rest (h .1))
 
 past-same : (R R′ : List ℕ → Type 0) (q q′ : List ℕ) (g n : ℕ) (p : List ℕ) → length p ≤ g
@@ -121,7 +121,7 @@ up-to-next g n p owner l =
 -- every owner is below n + 1
 all-below : (k n : ℕ) (v : List ℕ) → 0 < k → Table k n v → Before ((n + 1) ∷ []) v
 all-below k n [] l t = absurd (omega (arith, t .long))
-all-below k n (x ∷ v) l t = inl (omega (arith, t .low 0))
+all-below k n (x ∷ v) l t = inl (omega (arith, t .most 0))
 
 pub before-last : (g n : ℕ) (p : List ℕ) → length p < g → Agree g n (Before (p ++ ((n + 1) ∷ []))) (UpTo p)
 before-last g n p l =

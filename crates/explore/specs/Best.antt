@@ -12,7 +12,7 @@ use Rattle.records.specs.First.{pick}
 -- a table of f slots: "Each slot has an owner: 0 for idle, or a client", 1 to n
 pub record Table (f n : ℕ) (t : List ℕ) : Type 0 where
   pub long : length t ≡ f
-  pub low : (x : ℕ) → getD t x 0 ≤ n
+  pub most : (x : ℕ) → getD t x 0 ≤ n
 
 -- how many of its slots are "owned slots"
 unfoldable pub owned : List ℕ → ℕ

@@ -30,7 +30,7 @@ unfoldable pub needOf : List ℕ → (ℕ → ℕ) → ℕ → ℕ
 needOf trees node zero = 0
 needOf trees node (suc i) = needOf trees node i + needAt trees i (node i)
 
--- a filling suits the first n clients
+-- a filling leaves none of the first n clients in need
 pub record Fits (trees : List ℕ) (n : ℕ) (owners : List ℕ) : Type 0 where
   pub each : (i : ℕ) → i < n → needAt trees i (nodeOf (i + 1) owners) ≡ 0
 

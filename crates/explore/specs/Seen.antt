@@ -53,6 +53,7 @@ module _ (P : List ℕ → Type 0) (g n : ℕ) (Q : List ℕ → Type 0) where
     pub count : given ≡ g + 1
     pub none : (u : List ℕ) → Table g n u → Q u → P u → ⊥
 
+  -- either of them
   abbrev pub Seen : Bool → List ℕ → ℕ → Type 0
   Seen true t given = Kept t given
   Seen false t given = NoneYet given

@@ -1,5 +1,5 @@
-// The walk through the fillings, depth first and in dictionary order. A front is left at once where its clients need
-// more places than there are, or as many as the best filling gives.
+// The walk through the fillings, depth first and in dictionary order. A front is left at once where the clients need
+// more places than there are left, or where these and those that it gives come to as many as the best filling gives.
 use super::Best;
 use super::Front;
 use records::wide;
@@ -113,7 +113,7 @@ fn explore(trees: &[u8; 4096], g: usize, n: usize, front: Front, best: Best) -> 
     kept
 }
 
-// The best filling of g places by n clients.
+// The best filling of g places by n clients: whether there is one, and its owners, in the first g places.
 pub fn best_filling(trees: &[u8; 4096], g: usize, n: usize) -> Best
     requires { ⌜ (g ≤ 8) × (n ≤ 8) × Sound (now trees) g n ⌝ }
     ensures { λ r. ⌜ BestOf (Fits (now (trees .entry)) n) g n (r .found) (take g (r .owners)) ⌝ }

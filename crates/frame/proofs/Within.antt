@@ -4,6 +4,7 @@
 use mathlib.Core.Path.{_≡_, refl, sym, ap, _∙_}
 use Prim.Native.Nat.{ℕ, zero, suc, _+_, _*_, _/_, _%_, _≤_, _<_}
 use native.Mathlib.Nat.{add-zero, zero-add, add-suc, suc-add, add-comm, suc-mul, zero-mul, suc-mod, div-add-mod'}
+use native.Mathlib.Nat.{le-dest}
 use native.Mathlib.Numerals.{add-one}
 use native.Mathlib.Omega.{arith}
 use Rattle.frame.specs.Frame.{nextOf, within, Frame, Consecutive}
@@ -30,6 +31,12 @@ module _ (own : ℕ → ℕ) where
   unfolding within
   within-add s zero j = rw (zero-add j, add-zero s) (omega arith)
   within-add s (suc i) j = rw (suc-add i j, add-suc s i, ← suc-add s i) (omega (arith, within-add (suc s) i j))
+
+  -- a longer stretch has no fewer slots
+  pub within-grows : (s i j : ℕ) → i ≤ j → within own s i ≤ within own s j
+  within-grows s i j l =
+      let d : (k : ℕ) × (i + k ≡ j) = le-dest l in
+      omega (arith, ap (within own s) (d .1), within-add s i (d .0))
 
   within-one : (s : ℕ) → within own s 1 ≡ own s
   unfolding within

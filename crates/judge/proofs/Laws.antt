@@ -5,11 +5,13 @@
 use mathlib.Core.Path.{_≡_, refl, sym, ap, _∙_, subst}
 use mathlib.Core.Bool.{Bool, true, false}
 use Prim.Native.Nat.{ℕ, zero, suc, _+_, _*_, _/_, _%_, _≤_, _<_}
-use native.Mathlib.Nat.{mod-add-div', mod-lt, suc-mul, mul-le-mul-right, le-dest}
+use native.Mathlib.Nat.{mod-add-div', mod-lt, suc-mul, mul-le-mul-left, mul-le-mul-right, mul-pos, le-dest}
+use native.Mathlib.Nat.{le-of-mul-le-mul-left}
 use native.Mathlib.Decide.{ℕ-discrete, decLt}
 use native.Mathlib.Omega.{arith}
 use borrow.Author.Tests.{le-leb, leb-true}
 use Rattle.frame.specs.Frame.{slotsOf, within, Frame, IsScaled}
+use Rattle.frame.specs.Service.{Guaranteed}
 use Rattle.frame.proofs.Within.{within-add, within-frame, within-later, within-mod}
 use Rattle.records.proofs.Checks.{false-true}
 use Rattle.plan.specs.declared.Client.{Client}
@@ -17,7 +19,7 @@ use Rattle.plan.specs.declared.Plan.{Plan}
 use Rattle.plan.specs.Plan.{clientOf, ownOf}
 use Rattle.judge.specs.declared.Verdict.{Verdict}
 use Rattle.judge.specs.declared.Verdict.the-variants.{Ok, Rate, Late}
-use Rattle.judge.specs.Rules.{enough, covers, hasRate, inTime, IsLate, IsVerdict}
+use Rattle.judge.specs.Rules.{enough, covers, hasRate, inTime, IsOk, IsLate, IsVerdict}
 use Rattle.judge.specs.Judge.{ClientOk, AllOk, First, JudgedAs}
 
 -- ---- enough rate
@@ -42,7 +44,7 @@ covers-pass x f m j w h = le-leb (m * j * x .b) (x .a * m + f * w * x .b) h
 
 -- ---- a whole frame more
 
--- j slots with w of the client's are in time, so are f more with all of its m
+-- j slots with w of the client's are in time, so are f more with all of its m; the rule of today needs no rate for it
 pub covers-round : (x : Client) (f m j w : ℕ) → enough x f m ≡ true → covers x f m j w ≡ true
     → covers x f m (j + f) (w + m) ≡ true
 covers-round x f m j w rate h = covers-pass x f m (j + f) (w + m) (omega (arith, covers-true x f m j w h))
@@ -95,6 +97,29 @@ module _ (x : Client) {own : ℕ → ℕ} {f s j : ℕ} (frame : Frame own f (sl
           let passes = late .length i (omega (arith, frame .f>)) in
           let longer : inTime x own f s (i + f) ≡ true = frame-later x frame (late .rate) s i passes in
           false-true (sym (late .fails) ∙ rw e at longer)
+
+-- ---- what a client that is ok is guaranteed
+
+covers-guaranteed : (x : Client) (f m j w : ℕ) → 0 < f → enough x f m ≡ true → covers x f m j w ≡ true
+    → Guaranteed (x .p) (x .q) (x .a) (x .b) j w
+covers-guaranteed x f m j w f> rate h = by m (rate-true x f m rate) (covers-true x f m j w h)
+  where
+    by : (m : ℕ) → x .p * f ≤ m * x .q → m * j * x .b ≤ x .a * m + f * w * x .b
+        → Guaranteed (x .p) (x .q) (x .a) (x .b) j w
+    by zero rates covered = none (x .p) rates
+      where
+        none : (p : ℕ) → p * f ≤ zero * x .q → Guaranteed p (x .q) (x .a) (x .b) j w
+        none zero l = omega arith
+        none (suc p) l = absurd (omega (arith, mul-pos {m = suc p} (omega arith) f>))
+    by (suc m) rates covered =
+        le-of-mul-le-mul-left {k = suc m}
+        (omega (arith, mul-le-mul-left (x .p) covered, mul-le-mul-right (x .b * w) rates)) (omega arith)
+
+-- demand 3's inequality holds of every stretch
+pub ok-guaranteed : (x : Client) (own : ℕ → ℕ) (f : ℕ) → 0 < f → IsOk x own f → (s j : ℕ)
+    → Guaranteed (x .p) (x .q) (x .a) (x .b) j (within own s j)
+ok-guaranteed x own f f> ok s j =
+    covers-guaranteed x f (slotsOf own f) j (within own s j) f> (ok .rate) (ok .time s j)
 
 -- ---- the rule by L
 

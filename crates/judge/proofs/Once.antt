@@ -52,7 +52,7 @@ module _ (x : Client) (own : ℕ → ℕ) (f : ℕ) where
   start-one : (s j s′ j′ : ℕ) → IsLate x own f s j → IsLate x own f s′ j′ → s ≡ s′
   start-one s j s′ j′ a b = neither s s′ (start-before s j s′ j′ a b) (start-before s′ j′ s j b a)
 
-  pub late-one : (s j s′ j′ : ℕ) → IsLate x own f s j → IsLate x own f s′ j′ → (s ≡ s′) × (j ≡ j′)
+  late-one : (s j s′ j′ : ℕ) → IsLate x own f s j → IsLate x own f s′ j′ → (s ≡ s′) × (j ≡ j′)
   late-one s j s′ j′ a b =
       let e = start-one s j s′ j′ a b in
       let b′ : IsLate x own f s j′ = rw e b in

@@ -28,10 +28,10 @@ module _ (plan other : Plan) (same : Same plan other) (f> : 0 < plan .f) where
   pub all-same : (from to : ℕ) → to ≤ plan .n → AllOk plan from to → AllOk other from to
   all-same from to l all = record { each = λ i low high. client-same IsOk i (omega arith) (all .each i low high) }
 
-  first-same : (from to c : ℕ) → to ≤ plan .n → (P : Client → (ℕ → ℕ) → ℕ → Type 0)
+  failure-same : (from to c : ℕ) → to ≤ plan .n → (P : Client → (ℕ → ℕ) → ℕ → Type 0)
       → First plan from to c (λ i. P (clientOf plan i) (ownOf plan (i + 1)) (plan .f))
       → First other from to c (λ i. P (clientOf other i) (ownOf other (i + 1)) (other .f))
-  first-same from to c l P first =
+  failure-same from to c l P first =
       let i< : first .place < plan .n = omega (arith, first .high) in
       record {
         place = first .place;
@@ -42,12 +42,12 @@ module _ (plan other : Plan) (same : Same plan other) (f> : 0 < plan .f) where
         fails = client-same P (first .place) i< (first .fails);
       }
 
-  pub judgement-same : (from to : ℕ) → to ≤ plan .n → (v : Verdict) (c s j : ℕ) → JudgedAs plan from to v c s j
+  judgement-same : (from to : ℕ) → to ≤ plan .n → (v : Verdict) (c s j : ℕ) → JudgedAs plan from to v c s j
       → JudgedAs other from to v c s j
   judgement-same from to l Ok c s j h = (all-same from to l (h .0), h .1, h .2, h .3)
   judgement-same from to l Rate c s j h =
-      (first-same from to c l (λ x own f. hasRate x own f ≡ false) (h .0), h .1, h .2)
-  judgement-same from to l Late c s j h = first-same from to c l (λ x own f. IsLate x own f s j) h
+      (failure-same from to c l (λ x own f. hasRate x own f ≡ false) (h .0), h .1, h .2)
+  judgement-same from to l Late c s j h = failure-same from to c l (λ x own f. IsLate x own f s j) h
 
 pub verdict-same : (plan other : Plan) → Same plan other → (c : ℕ) (r : Verdicts) → IsVerdictOf plan c r
     → IsVerdictOf other c r

@@ -32,7 +32,7 @@ pub record AllOk (plan : Plan) (from to : ℕ) : Type 0 where
 abbrev pub Accepted : Plan → Type 0
 Accepted plan = AllOk plan 0 (plan .n)
 
--- "judging stops at the first client": of those, client c is not `ok` in the way that P says, and all before it are
+-- "judging stops at the first client": of clients from + 1 to `to`, c is the first that is not `ok`, and P says why
 pub record First (plan : Plan) (from to c : ℕ) (P : ℕ → Type 0) : Type 0 where
   pub place : ℕ
   pub client : c ≡ place + 1
@@ -50,12 +50,13 @@ JudgedAs plan from to Rate c s j =
 JudgedAs plan from to Late c s j =
     First plan from to c (λ i. IsLate (clientOf plan i) (ownOf plan (i + 1)) (plan .f) s j)
 
+-- the same of a judgement
 abbrev pub IsJudgement : Plan → ℕ → ℕ → Judgement → Type 0
 IsJudgement plan from to r = JudgedAs plan from to (r .verdict) (r .client) (r .start) (r .length)
 
 -- the judgement of an accepted plan: no client, no stretch
-abbrev pub allOk : Judgement
-allOk = record { client = 0; verdict = Ok; start = 0; length = 0 }
+abbrev pub acceptance : Judgement
+acceptance = record { client = 0; verdict = Ok; start = 0; length = 0 }
 
 -- what judging a plan answers
 abbrev pub IsJudged : Plan → Judged → Type 0
@@ -72,6 +73,11 @@ abbrev pub judgedValues : Judged → List ℕ
 judgedValues (judged.Given found) = found .client ∷ found .start ∷ found .length ∷ []
 judgedValues (judged.Refused number) = 0 ∷ 0 ∷ 0 ∷ []
 
+-- and its verdict: a refusal has none
+abbrev pub judgedVerdict : Judged → List Verdict
+judgedVerdict (judged.Given found) = found .verdict ∷ []
+judgedVerdict (judged.Refused number) = []
+
 -- ---- one client
 
 -- what is answered of client c: the plan's checks, 13, then its verdict; a client without slots has one, too
@@ -84,3 +90,8 @@ IsVerdictOf plan c (verdicts.Refused number) = RefusedBy (askedCheck plan c) num
 abbrev pub verdictNumber : Verdicts → ℕ
 verdictNumber (verdicts.Given verdict) = 0
 verdictNumber (verdicts.Refused number) = number
+
+-- an answer's verdict: a refusal has none
+abbrev pub verdictIn : Verdicts → List Verdict
+verdictIn (verdicts.Given verdict) = verdict ∷ []
+verdictIn (verdicts.Refused number) = []

@@ -21,7 +21,7 @@ fn times(x: usize, y: u16) -> usize
 }
 
 // Enough rate: m × q ≥ p × f.
-fn has_rate(required: Client, f: usize, m: usize) -> bool
+fn enough(required: Client, f: usize, m: usize) -> bool
     requires { ⌜ (f ≤ 64) × (m ≤ 64) ⌝ }
     ensures { λ r. ⌜ r ≡ enough required f m ⌝ }
 {
@@ -29,7 +29,7 @@ fn has_rate(required: Client, f: usize, m: usize) -> bool
 }
 
 // One stretch in time: j slots, w of them the client's.
-fn in_time(required: Client, f: usize, m: usize, j: usize, w: usize) -> bool
+fn covers(required: Client, f: usize, m: usize, j: usize, w: usize) -> bool
     requires { ⌜ (f ≤ 64) × (m ≤ 64) × (j ≤ 64) × (w ≤ 64) ⌝ }
     ensures { λ r. ⌜ r ≡ covers required f m j w ⌝ }
 {
@@ -53,7 +53,7 @@ pub fn first_failure(plan: Plan, from: usize, to: usize) -> Judgement
     'clients: for i in from..to {
         let required = requirements[i];
         let m = slots(plan, i + 1);
-        if !has_rate(required, f, m) {
+        if !enough(required, f, m) {
             found = Judgement {
                 client: i + 1,
                 verdict: Verdict::Rate,
@@ -66,7 +66,7 @@ pub fn first_failure(plan: Plan, from: usize, to: usize) -> Judgement
             let mut w = 0;
             let mut at = s;
             'lengths: for j in 0..f {
-                if !in_time(required, f, m, j, w) {
+                if !covers(required, f, m, j, w) {
                     found = Judgement {
                         client: i + 1,
                         verdict: Verdict::Late,

@@ -14,7 +14,7 @@ pub enum Verdict {
     Late,
 }
 
-// The first client that is not ok, its verdict and, if late, its first stretch that is; 0 and Ok where all are ok.
+// The first client that is not ok, its verdict and, if late, the first stretch that shows it; 0 and Ok where all are ok.
 pub struct Judgement {
     pub client: usize,
     pub verdict: Verdict,

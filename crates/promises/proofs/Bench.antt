@@ -17,13 +17,13 @@ use Rattle.records.specs.Refusal as refusal
 use Rattle.records.specs.First.{pick, rangeCheck, firstOf}
 use Rattle.records.specs.Pieces.{firsts, padded}
 use Rattle.records.specs.declared.Outcome.the-variants.{Fine}
-use Rattle.records.proofs.Checks.{range-pass, one-or-none, refused-fine}
+use Rattle.records.proofs.Checks.{both-true, range-pass, one-or-none, refused-fine}
 use Rattle.records.proofs.Lists.{get-padded}
 use Rattle.plan.specs.declared.Client.{Client}
 use Rattle.plan.specs.declared.Plan.{Plan}
 use Rattle.plan.specs.Plan.{noClient, clientOf, ownerOf, ownIn, ownOf}
-use Rattle.plan.specs.Check.{clientCheck, clientStep, requirementsCheck, planCheck}
-use Rattle.plan.proofs.Laws.{Required, Checked, plan-pass}
+use Rattle.plan.specs.Check.{clientCheck, ownerCheck, clientStep, requirementsCheck, ownerStep, ownersCheck, planCheck}
+use Rattle.plan.proofs.Laws.{Required, Checked, plan-fine}
 use Rattle.figures.specs.declared.Figure.{Figure}
 use Rattle.figures.specs.declared.Figures.{Figures}
 use Rattle.figures.specs.declared.Figures.the-variants as figures
@@ -36,7 +36,7 @@ use Rattle.figures.proofs.Answers.{figures-given, waits-given}
 use Rattle.figures.proofs.Once.{figures-once, waits-once}
 use Rattle.judge.specs.declared.Judged.the-variants as judged
 use Rattle.judge.specs.Rules.{enough, covers, IsOk, IsLate}
-use Rattle.judge.specs.Judge.{AllOk, allOk}
+use Rattle.judge.specs.Judge.{AllOk, acceptance}
 use Rattle.judge.proofs.Laws.{first-at}
 use Rattle.judge.proofs.Once.{judged-once}
 use Rattle.explore.specs.Best.{owned, IsBest}
@@ -45,35 +45,35 @@ use Rattle.search.specs.declared.Answer.{Answer}
 use Rattle.search.specs.declared.Answer.the-variants as answer
 use Rattle.search.specs.Search.{searchCheck, sizeCheck, AcceptedIn, SearchedAs}
 use Rattle.search.proofs.Questions.{search-fine}
-use Rattle.promises.specs.Bench.{Table, among, tablePlan, searchPlan, little, Question, figure, waiting}
+use Rattle.promises.specs.Bench.{Schedule, among, tablePlan, searchPlan, little, Question, figure, waiting}
 use Rattle.promises.specs.Bench.{accepted, late, found, none, Right, AllRight, questions}
-use Rattle.promises.proofs.Tests.{both, allBelow, fineTest, fine-tested, okTest, ok-tested, lateTest}
+use Rattle.promises.proofs.Tests.{allBelow, fineTest, fine-tested, okTest, ok-tested, lateTest}
 use Rattle.promises.proofs.Tests.{late-tested, acceptTest, everyTable, lexTest, betterTest, noneTest}
 use Rattle.promises.proofs.Tests.{none-tested, bestTest, best-tested}
 
 -- ---- a table as a plan
 
 -- client 1's slots, read off the table
-slotAt : Table → ℕ → ℕ
+slotAt : Schedule → ℕ → ℕ
 slotAt t s = pick (among (s % t .f) (t .slots)) 1 0
 
 one-by : (b : Bool) → pick (eqb (pick b 1 0) 1) 1 0 ≡ pick {A = ℕ} b 1 0
 one-by true = refl
 one-by false = refl
 
-owner-table : (client : Client) (t : Table) (x : ℕ) → x < t .f
+owner-table : (client : Client) (t : Schedule) (x : ℕ) → x < t .f
     → ownerOf (tablePlan client t) x ≡ pick (among x (t .slots)) 1 0
 unfolding tablePlan
 owner-table client t x l = get-padded (λ y. pick (among y (t .slots)) 1 0) (t .f) 64 0 x l
 
-own-table : (client : Client) (t : Table) → 1 ≤ t .f → ownOf (tablePlan client t) 1 ≡ slotAt t
+own-table : (client : Client) (t : Schedule) → 1 ≤ t .f → ownOf (tablePlan client t) 1 ≡ slotAt t
 unfolding tablePlan slotAt ownIn
 own-table client t f> =
     fun-ext (λ s.
     let x : ℕ = s % t .f in
     rw (owner-table client t x (mod-lt s f>)) (one-by (among x (t .slots))))
 
-table-checked : (client : Client) (t : Table) → Required client → 1 ≤ t .f → t .f ≤ 64 → Checked (tablePlan client t)
+table-checked : (client : Client) (t : Schedule) → Required client → 1 ≤ t .f → t .f ≤ 64 → Checked (tablePlan client t)
 unfolding tablePlan
 table-checked client t ok f> f≤ =
     record {
@@ -95,7 +95,7 @@ every [] = true
 every (b ∷ bs) = pick b (every bs) false
 
 -- f is 1 to 64, m is the client's slots, and not 0, and L is what `frame` works out
-abbrev figureTest : Table → ℕ → ℕ → Bool
+abbrev figureTest : Schedule → ℕ → ℕ → Bool
 figureTest t m L =
     every (
     leb 1 (t .f) ∷ leb (t .f) 64 ∷ leb 1 m
@@ -108,41 +108,35 @@ figureTest t m L =
 abbrev waitTest : ℕ → ℕ → ℕ → ℕ → ℕ → Bool
 waitTest f m L k slots = every (leb 1 k ∷ leb k mostWaiting ∷ eqb (waitOf f m L k) slots ∷ [])
 
--- f is 1 to 64, p is 1 to q and b is not 0
-abbrev tableTest : Table → Client → Bool
-tableTest t client =
-    every (
-    leb 1 (t .f) ∷ leb (t .f) 64 ∷ leb 1 (client .p) ∷ leb (client .p) (client .q) ∷ leb 1 (client .b) ∷ []
-    )
-
 test : Question → Bool
 test (figure t m L) = figureTest t m L
 test (waiting t k slots) =
     let m = slotsOf (slotAt t) (t .f) in
     let L = scaledOf (slotAt t) (t .f) m in
     pick (figureTest t m L) (waitTest (t .f) m L k slots) false
-test (accepted t client) = pick (tableTest t client) (okTest client (slotAt t) (t .f)) false
-test (late t client s j) = pick (tableTest t client) (lateTest client (slotAt t) (t .f) s j) false
+test (accepted t client) = pick (fineTest (planCheck (tablePlan client t))) (okTest client (slotAt t) (t .f)) false
+test (late t client s j) =
+    pick (fineTest (planCheck (tablePlan client t))) (lateTest client (slotAt t) (t .f) s j) false
 test (found f n client table) =
     pick (fineTest (searchCheck (searchPlan f n client))) (bestTest (searchPlan f n client) table) false
 test (none f n client) = pick (fineTest (searchCheck (searchPlan f n client))) (noneTest (searchPlan f n client)) false
 
 -- ---- what it says
 
-record Figured (t : Table) (m L : ℕ) : Type 0 where
+record Figured (t : Schedule) (m L : ℕ) : Type 0 where
   f-low : 1 ≤ t .f
   f-high : t .f ≤ 64
   m-low : 1 ≤ m
   slots : slotsOf (slotAt t) (t .f) ≡ m
   scaled : scaledOf (slotAt t) (t .f) m ≡ L
 
-figured : (t : Table) (m L : ℕ) → figureTest t m L ≡ true → Figured t m L
+figured : (t : Schedule) (m L : ℕ) → figureTest t m L ≡ true → Figured t m L
 figured t m L h =
-    let a = both (leb 1 (t .f)) _ h in
-    let b = both (leb (t .f) 64) _ (a .1) in
-    let c = both (leb 1 m) _ (b .1) in
-    let d = both (eqb (slotsOf (slotAt t) (t .f)) m) _ (c .1) in
-    let e = both (eqb (scaledOf (slotAt t) (t .f) m) L) true (d .1) in
+    let a = both-true (leb 1 (t .f)) _ h in
+    let b = both-true (leb (t .f) 64) _ (a .1) in
+    let c = both-true (leb 1 m) _ (b .1) in
+    let d = both-true (eqb (slotsOf (slotAt t) (t .f)) m) _ (c .1) in
+    let e = both-true (eqb (scaledOf (slotAt t) (t .f) m) L) true (d .1) in
     record {
       f-low = leb-true 1 (t .f) (a .0);
       f-high = leb-true (t .f) 64 (b .0);
@@ -153,7 +147,7 @@ figured t m L h =
 
 -- ---- so the answer is right
 
-module _ (t : Table) (m L : ℕ) (facts : Figured t m L) where
+module _ (t : Schedule) (m L : ℕ) (facts : Figured t m L) where
   plan : Plan
   plan = tablePlan little t
 
@@ -196,9 +190,9 @@ module _ (t : Table) (m L : ℕ) (facts : Figured t m L) where
   wait-right : (k slots : ℕ) → waitTest (t .f) m L k slots ≡ true → Right (waiting t k slots)
   unfolding plan tablePlan its-figure
   wait-right k slots h r is =
-      let a = both (leb 1 k) _ h in
-      let b = both (leb k mostWaiting) _ (a .1) in
-      let c = both (eqb (waitOf (t .f) m L k) slots) true (b .1) in
+      let a = both-true (leb 1 k) _ h in
+      let b = both-true (leb k mostWaiting) _ (a .1) in
+      let c = both-true (eqb (waitOf (t .f) m L k) slots) true (b .1) in
       let range = range-pass k mostWaiting refusal.waiting (leb-true 1 k (a .0)) (leb-true k mostWaiting (b .0)) in
       let least = rw (eqb-true (waitOf (t .f) m L k) slots (c .0)) at (wait-is (t .f) m L k (facts .m-low)) in
       let allowed = waits-given plan 1 k slots its-figure (figure-pass plan 1 asked) range figure-is least in
@@ -207,40 +201,21 @@ module _ (t : Table) (m L : ℕ) (facts : Figured t m L) where
 
 -- ---- judging a table, and the search
 
-record Fitting (t : Table) (client : Client) : Type 0 where
-  f-low : 1 ≤ t .f
-  f-high : t .f ≤ 64
-  required : Required client
-
-fitting : (t : Table) (client : Client) → tableTest t client ≡ true → Fitting t client
-fitting t client h =
-    let a = both (leb 1 (t .f)) _ h in
-    let b = both (leb (t .f) 64) _ (a .1) in
-    let c = both (leb 1 (client .p)) _ (b .1) in
-    let d = both (leb (client .p) (client .q)) _ (c .1) in
-    let e = both (leb 1 (client .b)) true (d .1) in
-    record {
-      f-low = leb-true 1 (t .f) (a .0);
-      f-high = leb-true (t .f) 64 (b .0);
-      required =
-          record {
-            p-low = leb-true 1 (client .p) (c .0);
-            p-high = leb-true (client .p) (client .q) (d .0);
-            b-low = leb-true 1 (client .b) (e .0);
-          };
-    }
-
-module _ (t : Table) (client : Client) (facts : Fitting t client) where
+module _ (t : Schedule) (client : Client) (tested : fineTest (planCheck (tablePlan client t)) ≡ true) where
   judged-plan : Plan
   judged-plan = tablePlan client t
 
   fine : planCheck judged-plan ≡ Fine
   unfolding judged-plan
-  fine = plan-pass judged-plan (table-checked client t (facts .required) (facts .f-low) (facts .f-high))
+  fine = fine-tested (planCheck judged-plan) tested
+
+  f-low : 1 ≤ t .f
+  unfolding judged-plan tablePlan
+  f-low = plan-fine judged-plan fine .bounds .f-low
 
   table-frame : Frame (slotAt t) (t .f) (slotsOf (slotAt t) (t .f))
   unfolding tablePlan
-  table-frame = rw (own-table client t (facts .f-low)) at (frame-of (tablePlan client t) 1 (facts .f-low))
+  table-frame = rw (own-table client t f-low) at (frame-of (tablePlan client t) 1 f-low)
 
   -- what holds of the table's client holds of the plan's only one
   only : (P : Client → (ℕ → ℕ) → ℕ → Type 0) → P client (slotAt t) (t .f) → (i : ℕ) → i < 1
@@ -248,13 +223,13 @@ module _ (t : Table) (client : Client) (facts : Fitting t client) where
   unfolding judged-plan tablePlan
   only P h i l =
       let first : i ≡ 0 = omega arith in
-      rw (first, get-padded (λ j. client) 1 8 noClient 0 (omega arith), own-table client t (facts .f-low)) h
+      rw (first, get-padded (λ j. client) 1 8 noClient 0 (omega arith), own-table client t f-low) h
 
   accepted-right : okTest client (slotAt t) (t .f) ≡ true → Right (accepted t client)
   unfolding judged-plan tablePlan
   accepted-right h r is =
       let ok = ok-tested client (slotAt t) (t .f) table-frame h in
-      judged-once judged-plan r (judged.Given allOk) is
+      judged-once judged-plan r (judged.Given acceptance) is
       (fine, (record { each = λ i low l. only IsOk ok i l }, refl, refl, refl))
 
   late-right : (s j : ℕ) → lateTest client (slotAt t) (t .f) s j ≡ true → Right (late t client s j)
@@ -303,19 +278,19 @@ right (figure t m L) h = figure-right t m L (figured t m L h)
 right (waiting t k slots) h =
     let m = slotsOf (slotAt t) (t .f) in
     let L = scaledOf (slotAt t) (t .f) m in
-    let g = both (figureTest t m L) (waitTest (t .f) m L k slots) h in
+    let g = both-true (figureTest t m L) (waitTest (t .f) m L k slots) h in
     wait-right t m L (figured t m L (g .0)) k slots (g .1)
 right (accepted t client) h =
-    let g = both (tableTest t client) (okTest client (slotAt t) (t .f)) h in
-    accepted-right t client (fitting t client (g .0)) (g .1)
+    let g = both-true (fineTest (planCheck (tablePlan client t))) (okTest client (slotAt t) (t .f)) h in
+    accepted-right t client (g .0) (g .1)
 right (late t client s j) h =
-    let g = both (tableTest t client) (lateTest client (slotAt t) (t .f) s j) h in
-    late-right t client (fitting t client (g .0)) s j (g .1)
+    let g = both-true (fineTest (planCheck (tablePlan client t))) (lateTest client (slotAt t) (t .f) s j) h in
+    late-right t client (g .0) s j (g .1)
 right (found f n client table) h =
-    let g = both (fineTest (searchCheck (searchPlan f n client))) (bestTest (searchPlan f n client) table) h in
+    let g = both-true (fineTest (searchCheck (searchPlan f n client))) (bestTest (searchPlan f n client) table) h in
     found-right f n client (g .0) table (g .1)
 right (none f n client) h =
-    let g = both (fineTest (searchCheck (searchPlan f n client))) (noneTest (searchPlan f n client)) h in
+    let g = both-true (fineTest (searchCheck (searchPlan f n client))) (noneTest (searchPlan f n client)) h in
     none-right f n client (g .0) (g .1)
 
 -- ---- all of them
@@ -326,10 +301,11 @@ testAll (q ∷ qs) = pick (test q) (testAll qs) false
 
 all-right : (qs : List Question) → testAll qs ≡ true → AllRight qs
 all-right [] h = tt
-all-right (q ∷ qs) h = let g = both (test q) (testAll qs) h in (right q (g .0), all-right qs (g .1))
+all-right (q ∷ qs) h = let g = both-true (test q) (testAll qs) h in (right q (g .0), all-right qs (g .1))
 
 pub bench : AllRight questions
 unfolding questions test slotAt scaledOf lackFrom largest lack within waitOf okTest lateTest fineTest noneTest bestTest
     acceptTest everyTable allBelow betterTest lexTest owned enough covers ownIn searchPlan searchCheck sizeCheck
-    requirementsCheck clientStep clientCheck rangeCheck firstOf firsts padded
+    tablePlan planCheck
+    requirementsCheck ownersCheck clientStep ownerStep clientCheck ownerCheck rangeCheck firstOf firsts padded
 bench = all-right questions refl

@@ -4,6 +4,7 @@
 -- Assumes nothing.
 use mathlib.Core.Path.{_≡_, refl, sym, ap, _∙_}
 use mathlib.Core.List.{List, [], _∷_}
+use mathlib.Core.Logic.{_⊎_, inl, inr}
 use Prim.Native.Nat.{ℕ, _≤_, _<_}
 use native.Mathlib.Omega.{arith}
 use lib.ListN.{length, getD, drop, replicate}
@@ -41,7 +42,8 @@ use Rattle.judge.specs.declared.Judgement.{Judgement}
 use Rattle.judge.specs.declared.Verdict.{Verdict}
 use Rattle.judge.specs.declared.Verdicts.{Verdicts}
 use Rattle.judge.specs.declared.Verdicts.the-variants as verdicts
-use Rattle.judge.specs.Judge.{IsJudged, judgedNumber, judgedValues, IsVerdictOf, verdictNumber}
+use Rattle.judge.specs.Judge.{IsJudged, judgedNumber, judgedValues, judgedVerdict, IsVerdictOf, verdictNumber}
+use Rattle.judge.specs.Judge.{verdictIn}
 use Rattle.judge.proofs.Once.{judged-once, verdict-once as verdicts-once}
 use Rattle.judge.proofs.Same.{judged-same, verdict-same as verdicts-same}
 use Rattle.search.specs.declared.Answer.{Answer}
@@ -125,7 +127,8 @@ pub search-number : (f n : ℕ) (clients : List Client) (r : Searched) → IsSea
     → (searchedNumber (r .answer) ≡ numberOf (searchCheck (idlePlan f n clients)))
     × Numbered 16 (searchCheck (idlePlan f n clients))
 search-number f n clients r is =
-    (search-number-by (idlePlan f n clients) (r .answer) (r .owners) is, search-numbered 16 (omega arith) _)
+    let numbered = search-numbered refusal.tooLarge (omega arith) (idlePlan f n clients) in
+    (search-number-by (idlePlan f n clients) (r .answer) (r .owners) is, numbered)
   where
     search-number-by : (plan : Plan) (a : Answer) (owners : List ℕ) → SearchedAs plan a owners
         → searchedNumber a ≡ numberOf (searchCheck plan)
@@ -181,6 +184,16 @@ pub verdict-given : (plan : Plan) (c : ℕ) (r : Verdicts) → Checked plan × (
 verdict-given plan c (verdicts.Given verdict) ok is = (verdict, refl)
 verdict-given plan c (verdicts.Refused k) ok is =
     refused-fine (askedCheck plan c) k is (asked-pass plan c (ok .0) (ok .1) (ok .2))
+
+pub search-given : (f n : ℕ) (clients : List Client) (r : Searched) → Searchable (idlePlan f n clients)
+    → IsSearched (idlePlan f n clients) r → (r .answer ≡ answer.Found) ⊎ (r .answer ≡ answer.None)
+search-given f n clients r ok is = by (r .answer) is
+  where
+    by : (a : Answer) → SearchedAs (idlePlan f n clients) a (r .owners) → (a ≡ answer.Found) ⊎ (a ≡ answer.None)
+    by answer.Found h = inl refl
+    by answer.None h = inr refl
+    by (answer.Refused k) h =
+        refused-fine (searchCheck (idlePlan f n clients)) k (h .0) (search-pass (idlePlan f n clients) ok)
 
 -- ---- "places past f .. and past n are ignored on the way in": plans that are the same get the same reply
 
@@ -267,11 +280,19 @@ pub wait-refused : (plan : Plan) (c k : ℕ) (r : Wait) → IsWaitFor plan c k r
 wait-refused plan c k (wait.Given slots) is h = absurd (h (sym (is .number)))
 wait-refused plan c k (wait.Refused number) is h = (is .number, refl)
 
--- a refused plan has no first client, start and length, and a refused search no table
-pub judge-refused : (plan : Plan) (r : Judged) → IsJudged plan r → (judgedNumber r ≡ 0 → ⊥)
-    → judgedValues r ≡ 0 ∷ 0 ∷ 0 ∷ []
-judge-refused plan (judged.Given found) is h = absurd (h refl)
-judge-refused plan (judged.Refused k) is h = refl
+-- a refused plan has its number, 0 for client, start and length, and no verdict
+pub judge-refused : (plan : Plan) (r : Judged) → IsJudged plan r → (numberOf (planCheck plan) ≡ 0 → ⊥)
+    → (judgedNumber r ≡ numberOf (planCheck plan)) × (judgedValues r ≡ 0 ∷ 0 ∷ 0 ∷ []) × (judgedVerdict r ≡ [])
+judge-refused plan (judged.Given found) is h = absurd (h (ap numberOf (is .0)))
+judge-refused plan (judged.Refused k) is h = (refused-number (planCheck plan) k is, refl, refl)
+
+pub verdict-refused : (plan : Plan) (c : ℕ) (r : Verdicts) → IsVerdictOf plan c r
+    → (numberOf (askedCheck plan c) ≡ 0 → ⊥)
+    → (verdictNumber r ≡ numberOf (askedCheck plan c)) × (verdictIn r ≡ [])
+verdict-refused plan c (verdicts.Given verdict) is h = absurd (h (ap numberOf (is .0)))
+verdict-refused plan c (verdicts.Refused k) is h = (refused-number (askedCheck plan c) k is, refl)
+
+-- a refused search has no table
 
 pub search-refused : (f n : ℕ) (clients : List Client) (r : Searched) → IsSearched (idlePlan f n clients) r
     → (searchedNumber (r .answer) ≡ 0 → ⊥) → r .owners ≡ replicate 64 0

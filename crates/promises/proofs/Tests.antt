@@ -15,7 +15,7 @@ use Rattle.frame.specs.Frame.{slotsOf, Frame}
 use Rattle.records.specs.First.{pick}
 use Rattle.records.specs.declared.Outcome.{Outcome}
 use Rattle.records.specs.declared.Outcome.the-variants.{Fine, Refused}
-use Rattle.records.proofs.Checks.{false-true, last-or-below}
+use Rattle.records.proofs.Checks.{false-true, both-true, last-or-below}
 use Rattle.plan.specs.declared.Client.{Client}
 use Rattle.plan.specs.declared.Plan.{Plan}
 use Rattle.plan.specs.Plan.{clientOf, ownOf}
@@ -27,10 +27,6 @@ use Rattle.explore.specs.Best.{Table, owned, LexLe, IsBest, NoTable}
 use Rattle.search.specs.Search.{withTable, AcceptedIn}
 
 -- ---- tests
-
-pub both : (a b : Bool) → pick a b false ≡ true → (a ≡ true) × (b ≡ true)
-both true b h = (refl, h)
-both false b h = false-true h
 
 pub failed : (a : Bool) → pick a false true ≡ true → a ≡ false
 failed true h = false-true h
@@ -45,7 +41,7 @@ pub each-below : (n : ℕ) (P : ℕ → Bool) → allBelow n P ≡ true → (i :
 unfolding allBelow
 each-below zero P h i l = absurd (omega arith)
 each-below (suc n) P h i l =
-    let b = both (allBelow n P) (P n) h in
+    let b = both-true (allBelow n P) (P n) h in
     ⊎-elim (λ (e : i ≡ n). rw e (b .1)) (λ (m : i < n). each-below n P (b .0) i m) (last-or-below i n l)
 
 below-each : (n : ℕ) (P : ℕ → Bool) → ((i : ℕ) → i < n → P i ≡ true) → allBelow n P ≡ true
@@ -73,7 +69,7 @@ module _ (x : Client) (own : ℕ → ℕ) (f : ℕ) where
   pub ok-tested : Frame own f (slotsOf own f) → okTest ≡ true → IsOk x own f
   unfolding okTest
   ok-tested frame h =
-      let b = both (hasRate x own f) _ h in
+      let b = both-true (hasRate x own f) _ h in
       let starts = each-below f _ (b .1) in
       record {
         rate = b .0;
@@ -95,9 +91,9 @@ module _ (x : Client) (own : ℕ → ℕ) (f : ℕ) where
   pub late-tested : Frame own f (slotsOf own f) → (s j : ℕ) → lateTest s j ≡ true → IsLate x own f s j
   unfolding lateTest
   late-tested frame s j h =
-      let a = both (hasRate x own f) _ h in
-      let b = both (pick (inTime x own f s j) false true) _ (a .1) in
-      let c = both (allBelow s (λ t. allBelow f (inTime x own f t))) _ (b .1) in
+      let a = both-true (hasRate x own f) _ h in
+      let b = both-true (pick (inTime x own f s j) false true) _ (a .1) in
+      let c = both-true (allBelow s (λ t. allBelow f (inTime x own f t))) _ (b .1) in
       record {
         rate = a .0;
         fails = failed (inTime x own f s j) (b .0);
@@ -138,8 +134,8 @@ every-table zero n Q h [] t = h
 every-table zero n Q h (x ∷ u) t = absurd (omega (arith, t .long))
 every-table (suc f) n Q h [] t = absurd (omega (arith, t .long))
 every-table (suc f) n Q h (x ∷ u) t =
-    let rest : Table f n u = record { long = omega (arith, t .long); low = λ i. t .low (suc i) } in
-    let here = each-below (suc n) _ h x (omega (arith, t .low 0)) in
+    let rest : Table f n u = record { long = omega (arith, t .long); most = λ i. t .most (suc i) } in
+    let here = each-below (suc n) _ h x (omega (arith, t .most 0)) in
     every-table f n (λ v. Q (x ∷ v)) here u rest
 
 -- ---- the best
@@ -158,7 +154,7 @@ lex-tested (x ∷ t) (y ∷ u) h = by (ltb x y) refl h (lex-tested t u)
     by : (b : Bool) → ltb x y ≡ b → pick b true (pick (eqb x y) (lexTest t u) false) ≡ true
         → (lexTest t u ≡ true → LexLe t u) → LexLe (x ∷ t) (y ∷ u)
     by true e g rest = inl (ltb-true x y e)
-    by false e g rest = let a = both (eqb x y) (lexTest t u) g in inr (eqb-true x y (a .0), rest (a .1))
+    by false e g rest = let a = both-true (eqb x y) (lexTest t u) g in inr (eqb-true x y (a .0), rest (a .1))
 
 -- t owns fewer than u, or as many and does not stand after it
 unfoldable pub betterTest : List ℕ → List ℕ → Bool
@@ -173,7 +169,7 @@ better-tested t u h = by (ltb (owned t) (owned u)) refl h
         → (owned t ≤ owned u) × (owned u ≡ owned t → LexLe t u)
     by true e g = let l = ltb-true (owned t) (owned u) e in (omega arith, λ same. absurd (omega arith))
     by false e g =
-        let a = both (eqb (owned t) (owned u)) (lexTest t u) g in
+        let a = both-true (eqb (owned t) (owned u)) (lexTest t u) g in
         (omega (arith, eqb-true (owned t) (owned u) (a .0)), λ same. lex-tested t u (a .1))
 
 module _ (plan : Plan) where
@@ -200,9 +196,9 @@ module _ (plan : Plan) where
   better true b e h = h
   better false b e h = false-true e
 
-  low-by : (t : List ℕ) (f n : ℕ) → length t ≡ f → allBelow f (λ x. leb (getD t x 0) n) ≡ true → (x : ℕ)
+  most-by : (t : List ℕ) (f n : ℕ) → length t ≡ f → allBelow f (λ x. leb (getD t x 0) n) ≡ true → (x : ℕ)
       → getD t x 0 ≤ n
-  low-by t f n e h x = by (decLt x f)
+  most-by t f n e h x = by (decLt x f)
     where
       by : Dec (x < f) → getD t x 0 ≤ n
       by (yes l) = leb-true (getD t x 0) n (each-below f _ h x l)
@@ -211,12 +207,12 @@ module _ (plan : Plan) where
   pub best-tested : 0 < plan .f → (t : List ℕ) → bestTest t ≡ true → IsBest (AcceptedIn plan) (plan .f) (plan .n) t
   unfolding bestTest
   best-tested f> t h =
-      let a = both (eqb (length t) (plan .f)) _ h in
-      let b = both (allBelow (plan .f) (λ x. leb (getD t x 0) (plan .n))) _ (a .1) in
-      let c = both (acceptTest (withTable plan t)) _ (b .1) in
+      let a = both-true (eqb (length t) (plan .f)) _ h in
+      let b = both-true (allBelow (plan .f) (λ x. leb (getD t x 0) (plan .n))) _ (a .1) in
+      let c = both-true (acceptTest (withTable plan t)) _ (b .1) in
       let long = eqb-true (length t) (plan .f) (a .0) in
       record {
-        table = record { long = long; low = low-by t (plan .f) (plan .n) long (b .0) };
+        table = record { long = long; most = most-by t (plan .f) (plan .n) long (b .0) };
         good = accept-tested (withTable plan t) f> (c .0);
         fewest = λ u table good. beats u table good (c .1) .0;
         least = λ u table good. beats u table good (c .1) .1;

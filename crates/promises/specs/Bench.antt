@@ -17,13 +17,13 @@ use Rattle.figures.specs.Figures.{figuresNumber, figureIn, IsFigures, waitNumbe
 use Rattle.judge.specs.declared.Judged.{Judged}
 use Rattle.judge.specs.declared.Judged.the-variants as judged
 use Rattle.judge.specs.declared.Verdict.the-variants.{Late}
-use Rattle.judge.specs.Judge.{allOk, IsJudged}
+use Rattle.judge.specs.Judge.{acceptance, IsJudged}
 use Rattle.search.specs.declared.Answer.the-variants as answer
 use Rattle.search.specs.declared.Searched.{Searched}
 use Rattle.search.specs.Search.{idlePlan, IsSearched}
 
--- a frame of f slots in which client 1 owns those of the list
-pub record Table : Type 0 where
+-- one client's schedule: a frame of f slots in which it owns those of the list
+pub record Schedule : Type 0 where
   pub f : ℕ
   pub slots : List ℕ
 
@@ -33,7 +33,7 @@ among x [] = false
 among x (y ∷ ys) = pick (eqb x y) true (among x ys)
 
 -- the table as the plan of one client, which requires this much
-unfoldable pub tablePlan : Client → Table → Plan
+unfoldable pub tablePlan : Client → Schedule → Plan
 tablePlan client t =
     record {
       f = t .f;
@@ -57,13 +57,13 @@ searchPlan f n client = idlePlan f n (padded (λ i. client) n 8 noClient)
 -- a question with its answer
 pub data Question : Type 0 where
   -- a table's client: m and L
-  figure : Table → (m L : ℕ) → Question
+  figure : Schedule → (m L : ℕ) → Question
   -- its wait for k
-  waiting : Table → (k slots : ℕ) → Question
+  waiting : Schedule → (k slots : ℕ) → Question
   -- judging the table, whose client requires this much: accepted
-  accepted : Table → Client → Question
+  accepted : Schedule → Client → Question
   -- or late, from slot s on for j slots
-  late : Table → Client → (s j : ℕ) → Question
+  late : Schedule → Client → (s j : ℕ) → Question
   -- the search of f slots for n clients that require this much: the table found
   found : (f n : ℕ) → Client → List ℕ → Question
   -- or none
@@ -76,7 +76,7 @@ Right (figure t m L) =
     → (figuresNumber r ≡ 0) × (figureIn r .slots ≡ m) × (figureIn r .scaled ≡ L)
 Right (waiting t k slots) =
     (r : Wait) → IsWaitFor (tablePlan little t) 1 k r → (waitNumber r ≡ 0) × (waitIn r ≡ slots)
-Right (accepted t client) = (r : Judged) → IsJudged (tablePlan client t) r → r ≡ judged.Given allOk
+Right (accepted t client) = (r : Judged) → IsJudged (tablePlan client t) r → r ≡ judged.Given acceptance
 Right (late t client s j) =
     (r : Judged) → IsJudged (tablePlan client t) r
     → r ≡ judged.Given (record { client = 1; verdict = Late; start = s; length = j })
@@ -90,30 +90,30 @@ AllRight [] = Unit {0}
 AllRight (e ∷ es) = Right e × AllRight es
 
 -- the tables of P1 to P6
-abbrev pub p1 : Table
+abbrev pub p1 : Schedule
 p1 = record { f = 6; slots = 0 ∷ 1 ∷ [] }
 
-abbrev pub p2 : Table
+abbrev pub p2 : Schedule
 p2 = record { f = 6; slots = 0 ∷ 3 ∷ [] }
 
-abbrev pub p3 : Table
+abbrev pub p3 : Schedule
 p3 = record { f = 1; slots = 0 ∷ [] }
 
-abbrev pub p4 : Table
+abbrev pub p4 : Schedule
 p4 = record { f = 8; slots = 0 ∷ 1 ∷ 2 ∷ 5 ∷ [] }
 
-abbrev pub p5 : Table
+abbrev pub p5 : Schedule
 p5 = record { f = 21; slots = 0 ∷ 1 ∷ 2 ∷ 3 ∷ 4 ∷ 5 ∷ 6 ∷ 7 ∷ 8 ∷ 9 ∷ 13 ∷ 17 ∷ [] }
 
-abbrev pub p6 : Table
+abbrev pub p6 : Schedule
 p6 = record { f = 64; slots = 0 ∷ [] }
 
 -- "Stretches that don't go round the frame's end: f 6, slots 1 and 2 then gives L 6 and not 8"
-abbrev pub round : Table
+abbrev pub round : Schedule
 round = record { f = 6; slots = 1 ∷ 2 ∷ [] }
 
 -- source 000, Figure 3: the service latency is 4, the longest gap 3
-abbrev pub figure3 : Table
+abbrev pub figure3 : Schedule
 figure3 = record { f = 10; slots = 3 ∷ 6 ∷ 7 ∷ 8 ∷ 9 ∷ [] }
 
 -- P1 to P6, the table of the second slip, and the paper's schedule; P7 and P8, late by the stretch that begins in slot

@@ -1,3 +1,4 @@
 pub mod Trip
 pub mod Readings
 pub mod Bench
+pub mod Verdict

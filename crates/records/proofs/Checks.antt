@@ -28,6 +28,10 @@ pub one-or-none : (b : Bool) → pick b 1 0 ≤ 1
 one-or-none true = omega arith
 one-or-none false = omega arith
 
+pub none-or-one : (b : Bool) → pick b 0 1 ≤ 1
+none-or-one true = omega arith
+none-or-one false = omega arith
+
 -- below n + 1 is n, or below n
 pub last-or-below : (i n : ℕ) → i < suc n → (i ≡ n) ⊎ (i < n)
 last-or-below i n l = eq-or-lt-of-le (le-of-suc-le-suc l)
@@ -39,12 +43,14 @@ below-by x n false e = inr (ltb-false x n e)
 pub below-or-not : (x n : ℕ) → (x < n) ⊎ (n ≤ x)
 below-or-not x n = below-by x n (ltb x n) refl
 
-between-by : (low x high : ℕ) (b : Bool) → leb low x ≡ b → pick b (leb x high) false ≡ true → (low ≤ x) × (x ≤ high)
-between-by low x high true e g = (leb-true low x e, leb-true x high g)
-between-by low x high false e g = false-true g
+pub both-true : (a b : Bool) → pick a b false ≡ true → (a ≡ true) × (b ≡ true)
+both-true true b h = (refl, h)
+both-true false b h = false-true h
 
 pub between-true : (low x high : ℕ) → between low x high ≡ true → (low ≤ x) × (x ≤ high)
-between-true low x high h = between-by low x high (leb low x) refl h
+between-true low x high h =
+    let b = both-true (leb low x) (leb x high) h in
+    (leb-true low x (b .0), leb-true x high (b .1))
 
 -- ---- one check, and one after another
 

@@ -21,7 +21,8 @@ use Rattle.records.proofs.Lists.{length-firsts, get-firsts}
 use Rattle.plan.specs.declared.Plan.{Plan}
 use Rattle.plan.specs.Plan.{ownerOf, ownIn}
 use Rattle.explore.specs.Best.{owned, LexLe}
-use Rattle.search.specs.Mend.{idleOf, slotIn, slotOf, filled}
+use Rattle.search.specs.Mend.{idleOf}
+use Rattle.search.specs.Trees.{slotIn, slotOf, filled}
 
 -- ---- slot by slot
 
@@ -93,16 +94,16 @@ get-filled plan v x l =
     ap (λ (t : List ℕ). getD t x 0) (sym (append-nil (filled plan v)))
     ∙ get-firsts (slotOf plan v) 0 [] (plan .f) x l
 
-module _ (plan : Plan) (fits : plan .f ≤ length (plan .owners)) where
+module _ (plan : Plan) (room : plan .f ≤ length (plan .owners)) where
   -- the plan's table
   abbrev pub tableOf : List ℕ
   tableOf = take (plan .f) (plan .owners)
 
   pub table-long : length tableOf ≡ plan .f
-  table-long = length-take-le (plan .f) (plan .owners) fits
+  table-long = length-take-le (plan .f) (plan .owners) room
 
   pub table-idle : idle tableOf ≡ idleOf plan
-  table-idle = idle-within (plan .owners) (plan .f) (plan .f) (omega arith) fits
+  table-idle = idle-within (plan .owners) (plan .f) (plan .f) (omega arith) room
 
   slot-filled : (v : List ℕ) (x : ℕ) → x < plan .f → getD (fill tableOf v) x 0 ≡ slotOf plan v x
   unfolding slotIn
@@ -127,13 +128,13 @@ rest-long (x ∷ o) [] e = absurd (omega arith)
 rest-long (zero ∷ o) (y ∷ u) e = omega (arith, rest-long o u (omega arith))
 rest-long (suc x ∷ o) (y ∷ u) e = rest-long o u (omega arith)
 
-pub rest-low : (n : ℕ) (o u : List ℕ) → ((x : ℕ) → getD u x 0 ≤ n) → (x : ℕ) → getD (rest o u) x 0 ≤ n
+pub rest-most : (n : ℕ) (o u : List ℕ) → ((x : ℕ) → getD u x 0 ≤ n) → (x : ℕ) → getD (rest o u) x 0 ≤ n
 unfolding rest
-rest-low n [] u h x = omega (arith, get-none x)
-rest-low n (z ∷ o) [] h x = omega (arith, get-none x)
-rest-low n (zero ∷ o) (y ∷ u) h zero = h 0
-rest-low n (zero ∷ o) (y ∷ u) h (suc x) = rest-low n o u (λ k. h (suc k)) x
-rest-low n (suc z ∷ o) (y ∷ u) h x = rest-low n o u (λ k. h (suc k)) x
+rest-most n [] u h x = omega (arith, get-none x)
+rest-most n (z ∷ o) [] h x = omega (arith, get-none x)
+rest-most n (zero ∷ o) (y ∷ u) h zero = h 0
+rest-most n (zero ∷ o) (y ∷ u) h (suc x) = rest-most n o u (λ k. h (suc k)) x
+rest-most n (suc z ∷ o) (y ∷ u) h x = rest-most n o u (λ k. h (suc k)) x
 
 pub fill-rest : (o u : List ℕ) → length u ≡ length o → ((x : ℕ) → 0 < getD o x 0 → getD u x 0 ≡ getD o x 0)
     → fill o (rest o u) ≡ u
@@ -146,16 +147,16 @@ fill-rest (suc z ∷ o) (y ∷ u) e h =
     ap (λ (t : List ℕ). suc z ∷ t) (fill-rest o u (omega arith) (λ x. h (suc x)))
     ∙ ap (λ (k : ℕ). k ∷ u) (sym (h 0 (omega arith)))
 
-pub fill-low : (n : ℕ) (o v : List ℕ) → ((x : ℕ) → getD o x 0 ≤ n) → ((x : ℕ) → getD v x 0 ≤ n) → (x : ℕ)
+pub fill-most : (n : ℕ) (o v : List ℕ) → ((x : ℕ) → getD o x 0 ≤ n) → ((x : ℕ) → getD v x 0 ≤ n) → (x : ℕ)
     → getD (fill o v) x 0 ≤ n
 unfolding fill
-fill-low n [] v ho hv x = omega (arith, get-none x)
-fill-low n (zero ∷ o) [] ho hv zero = omega arith
-fill-low n (zero ∷ o) [] ho hv (suc x) = fill-low n o [] (λ k. ho (suc k)) hv x
-fill-low n (zero ∷ o) (y ∷ v) ho hv zero = hv 0
-fill-low n (zero ∷ o) (y ∷ v) ho hv (suc x) = fill-low n o v (λ k. ho (suc k)) (λ k. hv (suc k)) x
-fill-low n (suc z ∷ o) v ho hv zero = ho 0
-fill-low n (suc z ∷ o) v ho hv (suc x) = fill-low n o v (λ k. ho (suc k)) hv x
+fill-most n [] v ho hv x = omega (arith, get-none x)
+fill-most n (zero ∷ o) [] ho hv zero = omega arith
+fill-most n (zero ∷ o) [] ho hv (suc x) = fill-most n o [] (λ k. ho (suc k)) hv x
+fill-most n (zero ∷ o) (y ∷ v) ho hv zero = hv 0
+fill-most n (zero ∷ o) (y ∷ v) ho hv (suc x) = fill-most n o v (λ k. ho (suc k)) (λ k. hv (suc k)) x
+fill-most n (suc z ∷ o) v ho hv zero = ho 0
+fill-most n (suc z ∷ o) v ho hv (suc x) = fill-most n o v (λ k. ho (suc k)) hv x
 
 -- ---- what they own, and their order
 

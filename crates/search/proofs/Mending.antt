@@ -20,10 +20,10 @@ use Rattle.plan.proofs.Laws.{own-most}
 use Rattle.explore.specs.Best.{Table, owned, IsBest, NoTable, BestOf}
 use Rattle.explore.specs.Needs.{Fits}
 use Rattle.search.specs.Search.{idlePlan, AcceptedIn, Finds}
-use Rattle.search.specs.Mend.{Mends, idleOf, slotOf, filled}
-use Rattle.search.specs.Trees.{Planted}
+use Rattle.search.specs.Mend.{Mends, idleOf}
+use Rattle.search.specs.Trees.{slotOf, filled, Planted}
 use Rattle.search.proofs.Fillings.{idle, fill, rest, tableOf, table-long, table-idle, filled-fill, fill-long}
-use Rattle.search.proofs.Fillings.{rest-long, rest-low, fill-rest, fill-low, fill-owned, fill-lex, get-filled}
+use Rattle.search.proofs.Fillings.{rest-long, rest-most, fill-rest, fill-most, fill-owned, fill-lex, get-filled}
 use Rattle.search.proofs.Sets.{filled-front, slot-kept}
 use Rattle.search.proofs.Planting.{fits-accepted, accepted-fits}
 
@@ -44,26 +44,26 @@ module _ (P Q : List ℕ → Type 0) (f n : ℕ) (there : (t : List ℕ) → Tab
 
 -- ---- from fillings to tables
 
-module _ (plan : Plan) (g : ℕ) (trees : List ℕ) (fits : plan .f ≤ length (plan .owners)) (g= : g ≡ idleOf plan)
+module _ (plan : Plan) (g : ℕ) (trees : List ℕ) (room : plan .f ≤ length (plan .owners)) (g= : g ≡ idleOf plan)
     (g≤ : g ≤ 8) (low : (x : ℕ) → x < plan .f → ownerOf plan x ≤ plan .n)
     (planted : Planted plan g (plan .n) trees) where
   abbrev o : List ℕ
-  o = tableOf plan fits
+  o = tableOf plan room
 
-  table-low : (x : ℕ) → getD o x 0 ≤ plan .n
-  table-low x = by (decLt x (plan .f))
+  table-most : (x : ℕ) → getD o x 0 ≤ plan .n
+  table-most x = by (decLt x (plan .f))
     where
       by : Dec (x < plan .f) → getD o x 0 ≤ plan .n
       by (yes l) = rw (getD-take (plan .f) (plan .owners) x 0 l) (low x l)
-      by (no h) = omega (arith, List·getD-eq-default o 0 {n = x} (omega (arith, table-long plan fits)))
+      by (no h) = omega (arith, List·getD-eq-default o 0 {n = x} (omega (arith, table-long plan room)))
 
   -- what a table that mends gives to the idle slots
   module _ (u : List ℕ) (table : Table (plan .f) (plan .n) u) (mends : Mends plan u) where
     given : Table g (plan .n) (rest o u)
     given =
         record {
-          long = rest-long o u (table .long ∙ sym (table-long plan fits)) ∙ table-idle plan fits ∙ sym g=;
-          low = rest-low (plan .n) o u (table .low);
+          long = rest-long o u (table .long ∙ sym (table-long plan room)) ∙ table-idle plan room ∙ sym g=;
+          most = rest-most (plan .n) o u (table .most);
         }
 
     kept : (x : ℕ) → 0 < getD o x 0 → getD u x 0 ≡ getD o x 0
@@ -73,18 +73,18 @@ module _ (plan : Plan) (g : ℕ) (trees : List ℕ) (fits : plan .f ≤ length (
         by (yes h) =
             let e = getD-take (plan .f) (plan .owners) x 0 h in
             mends .kept x h (omega arith) ∙ sym e
-        by (no h) = absurd (omega (arith, List·getD-eq-default o 0 {n = x} (omega (arith, table-long plan fits))))
+        by (no h) = absurd (omega (arith, List·getD-eq-default o 0 {n = x} (omega (arith, table-long plan room))))
 
     filled-again : fill o (rest o u) ≡ u
-    filled-again = fill-rest o u (table .long ∙ sym (table-long plan fits)) kept
+    filled-again = fill-rest o u (table .long ∙ sym (table-long plan room)) kept
 
     suits-all : Fits trees (plan .n) (rest o u)
     suits-all =
         accepted-fits plan g trees g≤ planted (rest o u) (given .long)
-        (rw (filled-fill plan fits (rest o u), filled-again) (mends .accepted))
+        (rw (filled-fill plan room (rest o u), filled-again) (mends .accepted))
 
     owned-more : owned u ≡ owned o + owned (rest o u)
-    owned-more = ap owned (sym filled-again) ∙ fill-owned o (rest o u) (given .long ∙ g= ∙ sym (table-idle plan fits))
+    owned-more = ap owned (sym filled-again) ∙ fill-owned o (rest o u) (given .long ∙ g= ∙ sym (table-idle plan room))
 
   -- the best filling makes the best table
   filled-mends : (v : List ℕ) → Table g (plan .n) v → Fits trees (plan .n) v → Mends plan (filled plan v)
@@ -94,14 +94,14 @@ module _ (plan : Plan) (g : ℕ) (trees : List ℕ) (fits : plan .f ≤ length (
         accepted = fits-accepted plan g trees g≤ planted v (table .long) suits;
       }
 
-  pub best-mends : (v : List ℕ) → IsBest (Fits trees (plan .n)) g (plan .n) v
+  best-mends : (v : List ℕ) → IsBest (Fits trees (plan .n)) g (plan .n) v
       → IsBest (Mends plan) (plan .f) (plan .n) (filled plan v)
   best-mends v best =
-      let e = filled-fill plan fits v in
-      let v= : length v ≡ idle o = best .table .long ∙ g= ∙ sym (table-idle plan fits) in
-      let long = fill-long o v ∙ table-long plan fits in
+      let e = filled-fill plan room v in
+      let v= : length v ≡ idle o = best .table .long ∙ g= ∙ sym (table-idle plan room) in
+      let long = fill-long o v ∙ table-long plan room in
       record {
-        table = rw e (record { long = long; low = fill-low (plan .n) o v table-low (best .table .low) });
+        table = rw e (record { long = long; most = fill-most (plan .n) o v table-most (best .table .most) });
         good = filled-mends v (best .table) (best .good);
         fewest = λ u t m.
             let less = best .fewest (rest o u) (given u t m) (suits-all u t m) in
@@ -109,12 +109,12 @@ module _ (plan : Plan) (g : ℕ) (trees : List ℕ) (fits : plan .f ≤ length (
         least = λ u t m same.
             let count : owned u ≡ owned (fill o v) = rw e at same in
             let even : owned (rest o u) ≡ owned v = omega (arith, fill-owned o v v=, owned-more u t m) in
-            let rest= = given u t m .long ∙ g= ∙ sym (table-idle plan fits) in
+            let rest= = given u t m .long ∙ g= ∙ sym (table-idle plan room) in
             let before = best .least (rest o u) (given u t m) (suits-all u t m) even in
             rw (e, ← filled-again u t m) (fill-lex o v (rest o u) v= rest= before);
       }
 
-  pub none-mends : NoTable (Fits trees (plan .n)) g (plan .n) → NoTable (Mends plan) (plan .f) (plan .n)
+  none-mends : NoTable (Fits trees (plan .n)) g (plan .n) → NoTable (Mends plan) (plan .f) (plan .n)
   none-mends none u t m = none (rest o u) (given u t m) (suits-all u t m)
 
   -- what was found is returned with 0 past f

@@ -2,6 +2,7 @@
 -- there is none.
 -- Assumes nothing.
 use mathlib.Core.Path.{_≡_, refl, sym, ap, _∙_}
+use mathlib.Core.Bool.{Bool, true, false}
 use mathlib.Core.List.{List, _++_}
 use Prim.Native.Nat.{ℕ}
 use lib.ListN.{take, drop, take-append-drop}
@@ -12,7 +13,7 @@ use Rattle.explore.proofs.Order.{best-one}
 use Rattle.search.specs.declared.Answer.{Answer}
 use Rattle.search.specs.declared.Answer.the-variants as answer
 use Rattle.search.specs.declared.Searched.{Searched}
-use Rattle.search.specs.Search.{searchCheck, AcceptedIn, SearchedAs, IsSearched}
+use Rattle.search.specs.Search.{searchCheck, AcceptedIn, Finds, SearchedAs, IsSearched}
 
 joined : (f : ℕ) (s t : List ℕ) → take f s ≡ take f t → drop f s ≡ drop f t → s ≡ t
 joined f s t e h =
@@ -22,15 +23,23 @@ joined f s t e h =
 not-none : (P : List ℕ → Type 0) (f n : ℕ) (t : List ℕ) → IsBest P f n t → NoTable P f n → ⊥
 not-none P f n t best none = none t (best .table) (best .good)
 
+-- one answer, whatever P is
+pub finds-one : (P : List ℕ → Type 0) (f n : ℕ) (a b : Bool) (s t : List ℕ) → Finds P f n a s → Finds P f n b t
+    → (a ≡ b) × (s ≡ t)
+finds-one P f n true true s t x y = (refl, joined f s t (best-one P f n _ _ (x .0) (y .0)) (x .1 ∙ sym (y .1)))
+finds-one P f n true false s t x y = absurd (not-none P f n _ (x .0) (y .0))
+finds-one P f n false true s t x y = absurd (not-none P f n _ (y .0) (x .0))
+finds-one P f n false false s t x y = (refl, x .1 ∙ sym (y .1))
+
 module _ (plan : Plan) where
   answers-one : (a b : Answer) (s t : List ℕ) → SearchedAs plan a s → SearchedAs plan b t → (a ≡ b) × (s ≡ t)
   answers-one answer.Found answer.Found s t x y =
-      let best = best-one (AcceptedIn plan) (plan .f) (plan .n) _ _ (x .1 .0) (y .1 .0) in
-      (refl, joined (plan .f) s t best (x .1 .1 ∙ sym (y .1 .1)))
+      (refl, finds-one (AcceptedIn plan) (plan .f) (plan .n) true true s t (x .1) (y .1) .1)
   answers-one answer.Found answer.None s t x y = absurd (not-none (AcceptedIn plan) _ _ _ (x .1 .0) (y .1 .0))
   answers-one answer.Found (answer.Refused k) s t x y = refused-fine (searchCheck plan) k (y .0) (x .0)
   answers-one answer.None answer.Found s t x y = absurd (not-none (AcceptedIn plan) _ _ _ (y .1 .0) (x .1 .0))
-  answers-one answer.None answer.None s t x y = (refl, x .1 .1 ∙ sym (y .1 .1))
+  answers-one answer.None answer.None s t x y =
+      (refl, finds-one (AcceptedIn plan) (plan .f) (plan .n) false false s t (x .1) (y .1) .1)
   answers-one answer.None (answer.Refused k) s t x y = refused-fine (searchCheck plan) k (y .0) (x .0)
   answers-one (answer.Refused k) answer.Found s t x y = refused-fine (searchCheck plan) k (x .0) (y .0)
   answers-one (answer.Refused k) answer.None s t x y = refused-fine (searchCheck plan) k (x .0) (y .0)

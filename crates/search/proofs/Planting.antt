@@ -14,15 +14,14 @@ use Rattle.plan.specs.declared.Plan.{Plan}
 use Rattle.explore.specs.Needs.{nodeOf, needAt, Fits, Sound}
 use Rattle.explore.proofs.Needs.{node-least, node-below}
 use Rattle.search.specs.Search.{AcceptedIn}
-use Rattle.search.specs.Mend.{filled}
-use Rattle.search.specs.Trees.{Suits, Entry, Planted}
+use Rattle.search.specs.Trees.{filled, Suits, IsNumber, Planted}
 
 -- ---- from the end
 
 -- a number stored at z or before moves nothing that node x looks at
-entry-kept : (plan : Plan) (g : ℕ) (trees : List ℕ) (z new i x number : ℕ) → z ≤ i * 512 + x
-    → Entry plan g trees i x number → Entry plan g (set trees z new) i x number
-entry-kept plan g trees z new i x number l entry =
+number-kept : (plan : Plan) (g : ℕ) (trees : List ℕ) (z new i x number : ℕ) → z ≤ i * 512 + x
+    → IsNumber plan g trees i x number → IsNumber plan g (set trees z new) i x number
+number-kept plan g trees z new i x number l entry =
     record {
       above = λ x> x<.
           rw (
@@ -35,25 +34,25 @@ entry-kept plan g trees z new i x number l entry =
 
 -- the entries from place z on are right
 pub record RightFrom (plan : Plan) (g n : ℕ) (trees : List ℕ) (z : ℕ) : Type 0 where
-  pub right : (i x : ℕ) → i < n → x < 512 → z ≤ i * 512 + x → Entry plan g trees i x (needAt trees i x)
+  pub right : (i x : ℕ) → i < n → x < 512 → z ≤ i * 512 + x → IsNumber plan g trees i x (needAt trees i x)
 
 -- one more, before them
 pub right-more : (plan : Plan) (g n : ℕ) (trees : List ℕ) (z new : ℕ) → z < length trees
-    → RightFrom plan g n trees (z + 1) → Entry plan g trees (z / 512) (z % 512) new
+    → RightFrom plan g n trees (z + 1) → IsNumber plan g trees (z / 512) (z % 512) new
     → RightFrom plan g n (set trees z new) z
 right-more plan g n trees z new l done entry =
     record { right = λ i x i< x< z≤. by i x i< x< z≤ (ℕ-discrete (i * 512 + x) z) }
   where
     by : (i x : ℕ) → i < n → x < 512 → z ≤ i * 512 + x → Dec (i * 512 + x ≡ z)
-        → Entry plan g (set trees z new) i x (needAt (set trees z new) i x)
+        → IsNumber plan g (set trees z new) i x (needAt (set trees z new) i x)
     by i x i< x< z≤ (yes e) =
         let client : z / 512 ≡ i = omega arith in
         let node : z % 512 ≡ x = omega arith in
-        let here : Entry plan g trees i x new = rw (client, node) at entry in
-        rw (e, getD-set-same trees z new 0 l) (entry-kept plan g trees z new i x new z≤ here)
+        let here : IsNumber plan g trees i x new = rw (client, node) at entry in
+        rw (e, getD-set-same trees z new 0 l) (number-kept plan g trees z new i x new z≤ here)
     by i x i< x< z≤ (no e) =
         rw (getD-set-other trees z (i * 512 + x) new 0 e)
-        (entry-kept plan g trees z new i x (needAt trees i x) z≤ (done .right i x i< x< (omega arith)))
+        (number-kept plan g trees z new i x (needAt trees i x) z≤ (done .right i x i< x< (omega arith)))
 
 -- ---- sound
 
@@ -81,8 +80,8 @@ module _ (plan : Plan) (g : ℕ) (trees : List ℕ) (g≤ : g ≤ 8) (planted : 
   leaf-suits i l =
       let x = nodeOf (i + 1) v in
       let low : 2 ^ g ≤ x = rw long at (node-least (i + 1) v) in
-      let entry = planted .right i x l (node-below (i + 1) v 9 (omega arith)) in
-      entry .leaf low v long refl
+      let number = planted .right i x l (node-below (i + 1) v 9 (omega arith)) in
+      number .leaf low v long refl
 
   pub fits-accepted : Fits trees (plan .n) v → AcceptedIn plan (filled plan v)
   fits-accepted fits = record { each = λ i low l. leaf-suits i l .ok (fits .each i l) }

@@ -1,54 +1,51 @@
 -- What the search refuses: 16 exactly where f or n is too large, after the requirements' own checks; each refusal has
 -- its number.
 -- Assumes nothing.
-use mathlib.Core.Path.{_≡_, refl}
-use mathlib.Core.Bool.{Bool, true, false}
+use mathlib.Core.Path.{_≡_}
 use Prim.Native.Nat.{ℕ, _≤_, _<_}
 use native.Mathlib.Omega.{arith}
 use lib.Dec.{leb}
 use borrow.Author.Tests.{le-leb, lt-leb, leb-true}
 use Rattle.records.specs.Refusal as refusal
-use Rattle.records.specs.First.{pick, Numbered}
+use Rattle.records.specs.First.{need, Numbered}
 use Rattle.records.specs.declared.Outcome.the-variants as outcome
-use Rattle.records.proofs.Checks.{false-true, both-fine, need-fine}
+use Rattle.records.proofs.Checks.{both-fine, need-fine}
 use Rattle.records.proofs.Refusals.{or-each, need-numbered}
 use Rattle.plan.specs.declared.Plan.{Plan}
 use Rattle.plan.specs.Check.{requirementsCheck}
 use Rattle.plan.proofs.Refusals.{requirements-numbered}
 use Rattle.plan.proofs.Laws.{InBounds, requirements-fine, requirements-pass}
-use Rattle.search.specs.Search.{sizeCheck, searchCheck}
+use Rattle.search.specs.Search.{mostSlots, mostClients, sizeCheck, searchCheck}
 
-pub too-long : (plan : Plan) → 8 < plan .f → sizeCheck plan ≡ outcome.Refused refusal.tooLarge 0
+pub too-long : (plan : Plan) → mostSlots < plan .f → sizeCheck plan ≡ outcome.Refused refusal.tooLarge 0
 unfolding sizeCheck
-too-long plan l = simp (lt-leb (plan .f) 8 l)
+too-long plan l = simp (lt-leb (plan .f) mostSlots l)
 
-pub too-many : (plan : Plan) → plan .f ≤ 8 → 4 < plan .n → sizeCheck plan ≡ outcome.Refused refusal.tooLarge 0
+pub too-many : (plan : Plan) → plan .f ≤ mostSlots → mostClients < plan .n
+    → sizeCheck plan ≡ outcome.Refused refusal.tooLarge 0
 unfolding sizeCheck
-too-many plan l h = simp (le-leb (plan .f) 8 l, lt-leb (plan .n) 4 h)
+too-many plan l h = simp (le-leb (plan .f) mostSlots l, lt-leb (plan .n) mostClients h)
 
-pub size-pass : (plan : Plan) → plan .f ≤ 8 → plan .n ≤ 4 → sizeCheck plan ≡ outcome.Fine
+pub size-pass : (plan : Plan) → plan .f ≤ mostSlots → plan .n ≤ mostClients → sizeCheck plan ≡ outcome.Fine
 unfolding sizeCheck
-size-pass plan l h = simp (le-leb (plan .f) 8 l, le-leb (plan .n) 4 h)
+size-pass plan l h = simp (le-leb (plan .f) mostSlots l, le-leb (plan .n) mostClients h)
 
 -- what a search has that passes
 pub record Searchable (plan : Plan) : Type 0 where
   pub bounds : InBounds plan
-  pub short : plan .f ≤ 8
-  pub few : plan .n ≤ 4
-
-both-low : (f n : ℕ) → pick (leb f 8) (leb n 4) false ≡ true → (f ≤ 8) × (n ≤ 4)
-both-low f n h = by (leb f 8) refl h
-  where
-    by : (b : Bool) → leb f 8 ≡ b → pick b (leb n 4) false ≡ true → (f ≤ 8) × (n ≤ 4)
-    by true e g = (leb-true f 8 e, leb-true n 4 g)
-    by false e g = false-true g
+  pub short : plan .f ≤ mostSlots
+  pub few : plan .n ≤ mostClients
 
 pub search-fine : (plan : Plan) → searchCheck plan ≡ outcome.Fine → Searchable plan
 unfolding searchCheck sizeCheck
 search-fine plan h =
     let a = both-fine (requirementsCheck plan) (sizeCheck plan) h in
-    let size = both-low (plan .f) (plan .n) (need-fine _ refusal.tooLarge 0 (a .1)) in
-    record { bounds = requirements-fine plan (a .0); short = size .0; few = size .1 }
+    let size = both-fine (need (leb (plan .f) mostSlots) refusal.tooLarge 0) _ (a .1) in
+    record {
+      bounds = requirements-fine plan (a .0);
+      short = leb-true (plan .f) mostSlots (need-fine _ refusal.tooLarge 0 (size .0));
+      few = leb-true (plan .n) mostClients (need-fine _ refusal.tooLarge 0 (size .1));
+    }
 
 pub search-pass : (plan : Plan) → Searchable plan → searchCheck plan ≡ outcome.Fine
 unfolding searchCheck
@@ -60,4 +57,6 @@ unfolding searchCheck sizeCheck
 search-numbered most h plan =
     or-each (Numbered most) (requirementsCheck plan) (sizeCheck plan)
     (requirements-numbered most (omega arith) plan)
-    (need-numbered most (pick (leb (plan .f) 8) (leb (plan .n) 4) false) refusal.tooLarge 0 (omega arith) h)
+    (or-each (Numbered most) (need (leb (plan .f) mostSlots) refusal.tooLarge 0) _
+    (need-numbered most (leb (plan .f) mostSlots) refusal.tooLarge 0 (omega arith) h)
+    (need-numbered most (leb (plan .n) mostClients) refusal.tooLarge 0 (omega arith) h))

@@ -32,7 +32,7 @@ accepted-front plan owners f> =
     } in all-same (withTable plan (take (plan .f) owners)) (withTable plan owners) same f> 0 (plan .n) (omega arith)
 
 module _ (f n : ℕ) (cs ds : List Client) (alike : (i : ℕ) → i < n → getD cs i noClient ≡ getD ds i noClient) where
-  pub search-check-same : searchCheck (idlePlan f n cs) ≡ searchCheck (idlePlan f n ds)
+  search-check-same : searchCheck (idlePlan f n cs) ≡ searchCheck (idlePlan f n ds)
   unfolding searchCheck sizeCheck
   search-check-same = rw (requirements-same (idlePlan f n cs) (idlePlan f n ds) refl refl alike)
 

@@ -1,11 +1,12 @@
--- What a client sees of a filling: where its own slots are. Owners that lead to the same leaf of its tree give it the
--- same slots, so a client judged on one such filling is judged on all of them.
+-- Fillings that lead to the same leaf of a client's tree give the client the same slots, so a client judged on one of
+-- them is judged on all. With the laws of the two loops that make such a table: the places that lead to a leaf, from
+-- the last one on, and the slots, filled one after the other.
 -- Assumes nothing.
 use mathlib.Core.Path.{_≡_, refl, sym, ap, _∙_, fun-ext}
 use mathlib.Core.Bool.{Bool, true, false}
 use mathlib.Core.List.{List, [], _∷_}
 use Prim.Native.Nat.{ℕ, zero, suc, _+_, _-_, _*_, _/_, _%_, _^_, _≤_, _<_}
-use native.Mathlib.Nat.{mod-lt, le-dest, pow-suc}
+use native.Mathlib.Nat.{mod-lt, pow-suc}
 use native.Mathlib.Numerals.{add-one}
 use native.Mathlib.Omega.{arith}
 use lib.Dec.{eqb}
@@ -13,7 +14,7 @@ use lib.ListN.{length, getD, take, drop, set, length-take, drop-of-length-le}
 use lib.Seq.{getD-take, length-take-le, take-set-lt, set-split, drop-at}
 use borrow.Author.Tests.{eqb-true, ne-eqb}
 use Rattle.frame.specs.Frame.{within}
-use Rattle.frame.proofs.Within.{within-add, within-more}
+use Rattle.frame.proofs.Within.{within-grows, within-more}
 use Rattle.records.specs.First.{pick}
 use Rattle.records.specs.Pieces.{padded}
 use Rattle.records.proofs.Lists.{get-padded}
@@ -22,14 +23,14 @@ use Rattle.plan.specs.declared.Plan.{Plan}
 use Rattle.plan.specs.Plan.{clientOf, ownerOf, ownIn, ownOf}
 use Rattle.figures.proofs.Laws.{place-first}
 use Rattle.judge.specs.declared.Verdict.{Verdict}
-use Rattle.judge.specs.declared.Verdict.the-variants.{Ok, Rate, Late}
+use Rattle.judge.specs.declared.Verdict.the-variants.{Ok}
 use Rattle.judge.specs.Rules.{IsVerdict}
 use Rattle.judge.specs.Judge.{ClientOk}
-use Rattle.judge.proofs.Once.{lacking-not-ok, late-not-ok}
+use Rattle.judge.proofs.Once.{verdict-one}
 use Rattle.explore.specs.Needs.{childOf, nodeFrom, nodeOf}
 use Rattle.search.specs.Search.{withTable}
-use Rattle.search.specs.Mend.{idleOf, slotIn, slotOf, filled}
-use Rattle.search.specs.Trees.{neededBy, Suits}
+use Rattle.search.specs.Mend.{idleOf}
+use Rattle.search.specs.Trees.{slotIn, slotOf, filled, Suits}
 use Rattle.search.proofs.Fillings.{get-filled}
 
 -- ---- leaves
@@ -61,7 +62,7 @@ from-one c x y (a ∷ u) (b ∷ v) e h =
     place first later zero = first
     place first later (suc j) = later j
 
-pub leaf-places : (c : ℕ) (u v : List ℕ) → length u ≡ length v → nodeOf c u ≡ nodeOf c v → (j : ℕ)
+leaf-places : (c : ℕ) (u v : List ℕ) → length u ≡ length v → nodeOf c u ≡ nodeOf c v → (j : ℕ)
     → is c (getD u j 0) ≡ is c (getD v j 0)
 unfolding nodeOf
 leaf-places c u v e h = from-one c 1 1 u v e h .1
@@ -101,12 +102,6 @@ half j above l h =
 
 -- ---- slots
 
--- a longer stretch has no fewer slots
-pub within-grows : (own : ℕ → ℕ) (s i j : ℕ) → i ≤ j → within own s i ≤ within own s j
-within-grows own s i j l =
-    let d : (k : ℕ) × (i + k ≡ j) = le-dest l in
-    omega (arith, ap (within own s) (d .1), within-add own s i (d .0))
-
 -- an idle slot has fewer idle slots before it than there are
 pub idle-before : (plan : Plan) (x : ℕ) → x < plan .f → ownerOf plan x ≡ 0 → within (ownOf plan 0) 0 x < idleOf plan
 unfolding ownIn
@@ -127,7 +122,7 @@ unfolding slotIn
 slot-kept plan u x l = rw (ne-eqb (ownerOf plan x) 0 (λ e. omega arith))
 
 -- owners that h does not tell apart fill each slot so that h does not
-pub slot-map : (h : ℕ → ℕ) (plan : Plan) (u v : List ℕ)
+slot-map : (h : ℕ → ℕ) (plan : Plan) (u v : List ℕ)
     → ((j : ℕ) → j < idleOf plan → h (getD u j 0) ≡ h (getD v j 0)) → (x : ℕ) → x < plan .f
     → h (slotOf plan u x) ≡ h (slotOf plan v x)
 unfolding slotIn
@@ -160,7 +155,7 @@ module _ (plan : Plan) (f> : 0 < plan .f) (c : ℕ) where
   own-filled u s = ap (is c) (get-filled plan u (s % plan .f) (mod-lt s f>))
 
   -- owners that lead to the same leaf give the client the same slots
-  pub own-leaf : (u v : List ℕ) → length v ≡ idleOf plan → idleOf plan ≤ length u
+  own-leaf : (u v : List ℕ) → length v ≡ idleOf plan → idleOf plan ≤ length u
       → nodeOf c (take (idleOf plan) u) ≡ nodeOf c v
       → ownIn (padded (slotOf plan u) (plan .f) 64 0) (plan .f) c ≡ ownIn (filled plan v) (plan .f) c
   own-leaf u v e l h =
@@ -182,14 +177,16 @@ leaf-judged plan i g node u table verdict f> g= l leads made judged v long leads
     let same = own-leaf plan f> (i + 1) u v (long ∙ g=) (omega arith) (rw g= at (leads ∙ sym leads′)) in
     rw (place, made, same) at judged
 
--- a number other than 0 says that the client is not ok
-unsuited : (plan : Plan) (i : ℕ) (v : List ℕ) (number : ℕ) → 0 < number
-    → (ClientOk (withTable plan (filled plan v)) i → ⊥) → Suits plan i v number
-unsuited plan i v number l h = record { ok = λ z. absurd (omega arith); zero-if = λ k. absurd (h k) }
-
-pub suits-by : (plan : Plan) (i : ℕ) (v : List ℕ) (verdict : Verdict)
+pub suits-by : (plan : Plan) (i : ℕ) (v : List ℕ) (verdict : Verdict) (number : ℕ)
     → IsVerdict (clientOf plan i) (ownIn (filled plan v) (plan .f) (i + 1)) (plan .f) verdict
-    → Suits plan i v (neededBy verdict)
-suits-by plan i v Ok ok = record { ok = λ z. ok; zero-if = λ k. refl }
-suits-by plan i v Rate lacks = unsuited plan i v 9 (omega arith) (lacking-not-ok _ _ _ lacks)
-suits-by plan i v Late late = unsuited plan i v 9 (omega arith) (late-not-ok _ _ _ (late .0) (late .1) (late .2))
+    → (number ≡ 0 → verdict ≡ Ok) → (verdict ≡ Ok → number ≡ 0) → Suits plan i v number
+suits-by plan i v verdict number judged there back =
+    record {
+      ok = λ z. ok-by verdict judged (there z);
+      zero-if = λ ok. back (verdict-one _ _ _ verdict Ok judged ok);
+    }
+  where
+    ok-by : (verdict : Verdict)
+        → IsVerdict (clientOf plan i) (ownIn (filled plan v) (plan .f) (i + 1)) (plan .f) verdict → verdict ≡ Ok
+        → ClientOk (withTable plan (filled plan v)) i
+    ok-by verdict judged e = rw e at judged

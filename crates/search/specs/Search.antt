@@ -6,7 +6,7 @@ use Prim.Native.Nat.{ℕ, _-_}
 use lib.Dec.{leb}
 use lib.ListN.{take, drop, replicate}
 use Rattle.records.specs.Refusal as refusal
-use Rattle.records.specs.First.{pick, need, orElse, RefusedBy}
+use Rattle.records.specs.First.{need, orElse, RefusedBy}
 use Rattle.records.specs.declared.Outcome.{Outcome}
 use Rattle.records.specs.declared.Outcome.the-variants.{Fine}
 use Rattle.plan.specs.declared.Client.{Client}
@@ -22,9 +22,17 @@ use Rattle.search.specs.declared.Searched.{Searched}
 abbrev pub idlePlan : ℕ → ℕ → List Client → Plan
 idlePlan f n clients = record { f = f; n = n; clients = clients; owners = replicate 64 0 }
 
--- "16 search with f > 8 or n > 4"
+-- "search with f > 8 or n > 4"
+abbrev pub mostSlots : ℕ
+mostSlots = 8
+
+abbrev pub mostClients : ℕ
+mostClients = 4
+
+-- that is 16
 unfoldable pub sizeCheck : Plan → Outcome
-sizeCheck plan = need (pick (leb (plan .f) 8) (leb (plan .n) 4) false) refusal.tooLarge 0
+sizeCheck plan =
+    orElse (need (leb (plan .f) mostSlots) refusal.tooLarge 0) (need (leb (plan .n) mostClients) refusal.tooLarge 0)
 
 -- "The search reads no owners: 5, 6, 8, 9, 16"
 unfoldable pub searchCheck : Plan → Outcome
@@ -51,6 +59,7 @@ SearchedAs plan answer.None owners =
     (searchCheck plan ≡ Fine) × Finds (AcceptedIn plan) (plan .f) (plan .n) false owners
 SearchedAs plan (answer.Refused number) owners = RefusedBy (searchCheck plan) number × (owners ≡ replicate 64 0)
 
+-- the same of an answer with its owners
 abbrev pub IsSearched : Plan → Searched → Type 0
 IsSearched plan r = SearchedAs plan (r .answer) (r .owners)
 

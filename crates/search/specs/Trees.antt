@@ -1,37 +1,45 @@
--- What stands in the trees of needs of a plan with g idle slots.
+-- Tables that fillings make, and what stands in the trees of needs of a plan with g idle slots. A filling has an owner
+-- for each idle slot, one after the other. Only the functions of this crate are specified by it.
 use mathlib.Core.Path.{_≡_}
 use mathlib.Core.List.{List}
 use Prim.Native.Nat.{ℕ, _+_, _*_, _^_, _<_, _≤_, min}
-use lib.ListN.{length}
+use lib.Dec.{eqb}
+use lib.ListN.{length, getD}
+use Rattle.frame.specs.Frame.{within}
+use Rattle.records.specs.First.{pick}
+use Rattle.records.specs.Pieces.{firsts}
 use Rattle.plan.specs.declared.Plan.{Plan}
-use Rattle.judge.specs.declared.Verdict.{Verdict}
-use Rattle.judge.specs.declared.Verdict.the-variants.{Ok, Rate, Late}
+use Rattle.plan.specs.Plan.{ownIn}
 use Rattle.judge.specs.Judge.{ClientOk}
 use Rattle.explore.specs.Needs.{nodeOf, needAt}
 use Rattle.search.specs.Search.{withTable}
-use Rattle.search.specs.Mend.{filled}
 
--- more places than there are
-abbrev pub hopeless : ℕ
-hopeless = 9
+-- slot x of a frame of f slots that have these owners, when its idle slots are filled: an idle slot gets the owner
+-- whose place is the number of idle slots before it
+unfoldable pub slotIn : List ℕ → ℕ → List ℕ → ℕ → ℕ
+slotIn owners f filling x =
+    pick (eqb (getD owners x 0) 0) (getD filling (within (ownIn owners f 0) 0 x) 0) (getD owners x 0)
 
--- what a client needs beside a set of idle slots on which it has this verdict
-abbrev pub neededBy : Verdict → ℕ
-neededBy Ok = 0
-neededBy Rate = hopeless
-neededBy Late = hopeless
+-- slot x of a plan, filled so
+abbrev pub slotOf : Plan → List ℕ → ℕ → ℕ
+slotOf plan = slotIn (plan .owners) (plan .f)
 
--- the number is 0 exactly when client i + 1 is ok with its idle slots among these owners
-pub record Suits (plan : Plan) (i : ℕ) (owners : List ℕ) (number : ℕ) : Type 0 where
-  pub ok : number ≡ 0 → ClientOk (withTable plan (filled plan owners)) i
-  pub zero-if : ClientOk (withTable plan (filled plan owners)) i → number ≡ 0
+-- the table that this makes
+abbrev pub filled : Plan → List ℕ → List ℕ
+filled plan filling = firsts (slotOf plan filling) (plan .f)
 
--- the number of node x in the tree of client i + 1: at a leaf, that of the owners that lead to it; above, the least
+-- the number is 0 exactly when client i + 1 is ok on the table that the filling makes
+pub record Suits (plan : Plan) (i : ℕ) (filling : List ℕ) (number : ℕ) : Type 0 where
+  pub ok : number ≡ 0 → ClientOk (withTable plan (filled plan filling)) i
+  pub zero-if : ClientOk (withTable plan (filled plan filling)) i → number ≡ 0
+
+-- the number of node x in the tree of client i + 1: at a leaf, that of the fillings that lead to it; above, the least
 -- that the two nodes below allow
-pub record Entry (plan : Plan) (g : ℕ) (trees : List ℕ) (i x number : ℕ) : Type 0 where
+pub record IsNumber (plan : Plan) (g : ℕ) (trees : List ℕ) (i x number : ℕ) : Type 0 where
   pub above : 0 < x → x < 2 ^ g → number ≡ min (needAt trees i (2 * x)) (needAt trees i (2 * x + 1) + 1)
-  pub leaf : 2 ^ g ≤ x → (owners : List ℕ) → length owners ≡ g → nodeOf (i + 1) owners ≡ x → Suits plan i owners number
+  pub leaf : 2 ^ g ≤ x → (filling : List ℕ) → length filling ≡ g → nodeOf (i + 1) filling ≡ x
+      → Suits plan i filling number
 
 -- the trees of n clients
 pub record Planted (plan : Plan) (g n : ℕ) (trees : List ℕ) : Type 0 where
-  pub right : (i x : ℕ) → i < n → x < 512 → Entry plan g trees i x (needAt trees i x)
+  pub right : (i x : ℕ) → i < n → x < 512 → IsNumber plan g trees i x (needAt trees i x)

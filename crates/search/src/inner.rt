@@ -22,8 +22,9 @@ ghost use Rattle.records.specs.Pieces.{padded};
 ghost use Rattle.plan.specs.Plan.{ownerOf};
 ghost use Rattle.explore.specs.Needs.{childOf, nodeOf};
 ghost use Rattle.search.specs.Search.{searchCheck, Finds};
-ghost use Rattle.search.specs.Mend.{Mends, idleOf, slotOf};
-ghost use Rattle.search.specs.Trees.{neededBy, Suits, Entry, Planted};
+ghost use Rattle.judge.specs.declared.Verdict.the-variants.{Ok};
+ghost use Rattle.search.specs.Mend.{Mends, idleOf};
+ghost use Rattle.search.specs.Trees.{slotOf, Suits, IsNumber, Planted};
 
 // More places than there are: what a client needs where a set of idle slots will not do.
 const HOPELESS: u8 = 9;
@@ -45,18 +46,18 @@ pub fn check_search(plan: Plan) -> Outcome
     Outcome::Fine
 }
 
-// A slot's owner, or place j of those given to idle slots.
-fn slot(owner: u8, given: [u8; 8], j: usize) -> u8
+// A slot's owner, or at an idle slot place j of a filling.
+fn slot(owner: u8, filling: [u8; 8], j: usize) -> u8
     requires { ⌜ (owner ≡ 0 → j < 8) ⌝ }
-    ensures { λ r. ⌜ r ≡ pick (eqb owner 0) (getD given j 0) owner ⌝ }
+    ensures { λ r. ⌜ r ≡ pick (eqb owner 0) (getD filling j 0) owner ⌝ }
 {
-    if owner == 0 { given[j] } else { owner }
+    if owner == 0 { filling[j] } else { owner }
 }
 
-// The plan's table with its idle slots given to these owners, one after the other.
-fn fill(plan: Plan, given: [u8; 8]) -> [u8; 64]
+// The plan's table with its idle slots filled.
+fn fill(plan: Plan, filling: [u8; 8]) -> [u8; 64]
     requires { ⌜ (plan .f ≤ 64) × (idleOf plan ≤ 8) ⌝ }
-    ensures { λ r. ⌜ r ≡ padded (slotOf plan given) (plan .f) 64 0 ⌝ }
+    ensures { λ r. ⌜ r ≡ padded (slotOf plan filling) (plan .f) 64 0 ⌝ }
 {
     let f = plan.f;
     let owners = plan.owners;
@@ -65,7 +66,7 @@ fn fill(plan: Plan, given: [u8; 8]) -> [u8; 64]
     let mut x = 0;
     while x < f {
         let owner = owners[x];
-        table[x] = slot(owner, given, j);
+        table[x] = slot(owner, filling, j);
         j += owned_by(owner, 0);
         x += 1;
     }
@@ -96,9 +97,9 @@ fn set_of(client: usize, g: usize, node: usize) -> [u8; 8]
     owners
 }
 
-// What a client needs beside a set of idle slots on which it has this verdict.
+// What a client needs beside a set of idle slots on which it has this verdict: nothing exactly where it is ok.
 fn needed(verdict: Verdict) -> u8
-    ensures { λ r. ⌜ r ≡ neededBy verdict ⌝ }
+    ensures { λ r. ⌜ (r ≡ 0 → verdict ≡ Ok) × (verdict ≡ Ok → r ≡ 0) ⌝ }
 {
     match verdict {
         Verdict::Ok => 0,
@@ -111,10 +112,10 @@ fn needed(verdict: Verdict) -> u8
 fn leaf(plan: Plan, g: usize, i: usize, node: usize) -> u8
     requires { ⌜ (1 ≤ plan .f) × (plan .f ≤ 64) × (g ≡ idleOf plan) × (g ≤ 8) × (i < 8) ⌝ }
     requires { ⌜ (2 ^ g ≤ node) × (node < 2 ^ (g + 1)) ⌝ }
-    ensures { λ r. ⌜ ((owners : List ℕ) → length owners ≡ g → nodeOf (i + 1) owners ≡ node → Suits plan i owners r) ⌝ }
+    ensures { λ r. ⌜ ((v : List ℕ) → length v ≡ g → nodeOf (i + 1) v ≡ node → Suits plan i v r) ⌝ }
 {
-    let given = set_of(i + 1, g, node);
-    let table = fill(plan, given);
+    let filling = set_of(i + 1, g, node);
+    let table = fill(plan, filling);
     let clients = plan.clients;
     let tried = Plan {
         f: plan.f,
@@ -125,22 +126,22 @@ fn leaf(plan: Plan, g: usize, i: usize, node: usize) -> u8
     needed(verdict(tried, i + 1))
 }
 
-// The lesser of x and y + 1.
-fn lesser(x: u8, y: u8) -> u8
-    ensures { λ r. ⌜ r ≡ min x (y + 1) ⌝ }
+// The least that a client needs where the next place is another's, or its own and it then needs one less.
+fn least_need(other: u8, own: u8) -> u8
+    ensures { λ r. ⌜ r ≡ min other (own + 1) ⌝ }
 {
-    if x <= y { x } else { y + 1 }
+    if other <= own { other } else { own + 1 }
 }
 
-// What belongs at node x of client i + 1's tree, all that stands after it being right.
-fn entry(trees: &[u8; 4096], plan: Plan, g: usize, i: usize, x: usize) -> u8
+// The number of node x in the tree of client i + 1, all that stands after it being right.
+fn number_at(trees: &[u8; 4096], plan: Plan, g: usize, i: usize, x: usize) -> u8
     requires { ⌜ (1 ≤ plan .f) × (plan .f ≤ 64) × (g ≡ idleOf plan) × (g ≤ 8) × (i < 8) × (x < 512) ⌝ }
-    ensures { λ r. ⌜ Entry plan g (now (trees .entry)) i x r ⌝ }
+    ensures { λ r. ⌜ IsNumber plan g (now (trees .entry)) i x r ⌝ }
 {
     let leaves = 1usize << g;
     if x < leaves {
         let below = i * 512 + 2 * x;
-        return lesser(trees[below], trees[below + 1]);
+        return least_need(trees[below], trees[below + 1]);
     }
     if x < leaves + leaves {
         return leaf(plan, g, i, x);
@@ -148,7 +149,7 @@ fn entry(trees: &[u8; 4096], plan: Plan, g: usize, i: usize, x: usize) -> u8
     0
 }
 
-// The trees of the plan's clients.
+// The trees of the plan's clients. Node 0 and the nodes past the leaves are read by nobody.
 fn plant(plan: Plan, g: usize) -> [u8; 4096]
     requires { ⌜ (1 ≤ plan .f) × (plan .f ≤ 64) × (plan .n ≤ 8) × (g ≡ idleOf plan) × (g ≤ 8) ⌝ }
     ensures { λ r. ⌜ Planted plan g (plan .n) r ⌝ }
@@ -157,7 +158,7 @@ fn plant(plan: Plan, g: usize) -> [u8; 4096]
     let mut z = plan.n * 512;
     while 0 < z {
         z -= 1;
-        let number = entry(&trees, plan, g, z / 512, z % 512);
+        let number = number_at(&trees, plan, g, z / 512, z % 512);
         trees[z] = number;
     }
     trees
@@ -172,10 +173,10 @@ pub fn mend(plan: Plan) -> Mended
     let g = slots(plan, 0);
     let trees = plant(plan, g);
     let best = best_filling(&trees, g, plan.n);
-    let given = best.owners;
+    let filling = best.owners;
     let found = best.found;
     if found {
-        let table = fill(plan, given);
+        let table = fill(plan, filling);
         return Mended {
             found: true,
             owners: table,

@@ -65,8 +65,8 @@ add-slots c = omega arith
 slots-requires : tie.Need-slots-requires Inv-lengths μ-lengths Inv-starts μ-starts Inv-clients μ-clients
 slots-requires c κs = omega arith
 
-has-rate-requires : tie.Need-has-rate-requires Inv-lengths μ-lengths Inv-starts μ-starts Inv-clients μ-clients
-has-rate-requires c κs =
+enough-requires : tie.Need-enough-requires Inv-lengths μ-lengths Inv-starts μ-starts Inv-clients μ-clients
+enough-requires c κs =
     let plan = c .before .before .before .before .before .before .args .plan in
     let client = c .before .before .before .clients .i + 1 in
     (omega arith, omega (arith, slots-small plan client _ (c .slots .ensures) (omega arith)))
@@ -84,16 +84,16 @@ lengths-holds c =
     let place = place-zero (plan .f) (in-starts .starts .s) (omega arith) in
     (omega arith, sym (within-none _ _), omega (arith, place), λ k l. absurd (omega arith), refl)
 
-in-time-requires : tie.Need-in-time-requires Inv-lengths μ-lengths Inv-starts μ-starts Inv-clients μ-clients
-in-time-requires c κs =
+covers-requires : tie.Need-covers-requires Inv-lengths μ-lengths Inv-starts μ-starts Inv-clients μ-clients
+covers-requires c κs =
     let lengths = c .before .lengths in
     let in-starts = c .before .before .before in
     let slots = in-starts .before .before .before .slots in
     let in-clients = in-starts .before .before .before .before .before .before in
     let plan = in-clients .before .before .before .args .plan in
-    let c = in-clients .clients .i + 1 in
-    let w = count-small (plan .owners) (plan .f) c (in-starts .starts .s) (lengths .j) (omega arith) in
-    (omega arith, slots-small plan c _ (slots .ensures) (omega arith), omega arith, omega arith)
+    let client = in-clients .clients .i + 1 in
+    let w = count-small (plan .owners) (plan .f) client (in-starts .starts .s) (lengths .j) (omega arith) in
+    (omega arith, slots-small plan client _ (slots .ensures) (omega arith), omega arith, omega arith)
 
 add-t28 : tie.Need-add-t28 Inv-lengths μ-lengths Inv-starts μ-starts Inv-clients μ-clients
 add-t28 c = omega arith
@@ -137,7 +137,7 @@ lengths-less c = omega arith
 
 lengths-again : tie.Need-lengths-again Inv-lengths μ-lengths Inv-starts μ-starts Inv-clients μ-clients
 lengths-again c =
-    let test = c .before .before .before .in-time in
+    let test = c .before .before .before .covers in
     let lengths = c .before .before .before .before .before .lengths in
     let in-starts = c .before .before .before .before .before .before .before in
     let slots = in-starts .before .before .before .slots in
@@ -170,16 +170,16 @@ starts-again c =
     let lengths = c .before .lengths in
     let in-starts = c .before .before .before in
     let starts = in-starts .starts in
-    let rate = in-starts .before .before .has-rate in
+    let rate = in-starts .before .before .enough in
     let slots = in-starts .before .before .before .slots in
     let in-clients = in-starts .before .before .before .before .before .before in
     let plan = in-clients .before .before .before .args .plan in
     let i = in-clients .clients .i in
     let x = clientOf plan i in
     let tested = rate-tested x (ownOf plan (i + 1)) (plan .f) _ _ (rate .ensures) (omega (arith, slots .ensures)) in
-    let enough = tested ∙ not-false (rate .result) (in-starts .before .if1 .left) in
+    let rates = tested ∙ not-false (rate .result) (in-starts .before .if1 .left) in
     let frame = frame-of plan (i + 1) (omega arith) in
-    let here = lengths-suffice x frame enough (starts .s) (λ k l. lengths .inv .3 k (omega arith)) in
+    let here = lengths-suffice x frame rates (starts .s) (λ k l. lengths .inv .3 k (omega arith)) in
     (omega arith, below-more _ _ (starts .inv .1) here, lengths .inv .4 ∙ starts .inv .2)
 
 add-i : tie.Need-add-i Inv-lengths μ-lengths Inv-starts μ-starts Inv-clients μ-clients
@@ -191,7 +191,7 @@ clients-less c = omega arith
 clients-again : tie.Need-clients-again Inv-lengths μ-lengths Inv-starts μ-starts Inv-clients μ-clients
 clients-again c =
     let starts = c .before .starts in
-    let rate = c .before .before .before .has-rate in
+    let rate = c .before .before .before .enough in
     let in-clients = c .before .before .before .before .before .before .before in
     let clients = in-clients .clients in
     let args = in-clients .before .before .before .args in
@@ -200,11 +200,11 @@ clients-again c =
     let x = clientOf plan i in
     let slots = c .before .before .before .before .slots in
     let tested = rate-tested x (ownOf plan (i + 1)) (plan .f) _ _ (rate .ensures) (omega (arith, slots .ensures)) in
-    let enough = tested ∙ not-false (rate .result) (c .before .before .if1 .left) in
+    let rates = tested ∙ not-false (rate .result) (c .before .before .if1 .left) in
     let frame = frame-of plan (i + 1) (omega arith) in
-    let time = starts-suffice x frame enough (λ t l. starts .inv .1 t (omega arith)) in (
+    let time = starts-suffice x frame rates (λ t l. starts .inv .1 t (omega arith)) in (
       omega arith,
-      all-more plan (args .from) i (clients .inv .1) (record { rate = enough; time = time }),
+      all-more plan (args .from) i (clients .inv .1) (record { rate = rates; time = time }),
       starts .inv .2 ∙ clients .inv .2,
     )
 
@@ -216,7 +216,7 @@ returns c =
 
 returns-2 : tie.Need-returns-2 Inv-lengths μ-lengths Inv-starts μ-starts Inv-clients μ-clients
 returns-2 c =
-    let rate = c .before .has-rate in
+    let rate = c .before .enough in
     let clients = c .before .before .before .before .before .clients in
     let args = c .before .before .before .before .before .before .before .before .args in
     let plan = args .plan in
@@ -229,11 +229,11 @@ returns-2 c =
 
 returns-3 : tie.Need-returns-3 Inv-lengths μ-lengths Inv-starts μ-starts Inv-clients μ-clients
 returns-3 c =
-    let test = c .before .in-time in
+    let test = c .before .covers in
     let lengths = c .before .before .before .lengths in
     let in-starts = c .before .before .before .before .before in
     let starts = in-starts .starts in
-    let rate = in-starts .before .before .has-rate in
+    let rate = in-starts .before .before .enough in
     let slots = in-starts .before .before .before .slots in
     let in-clients = in-starts .before .before .before .before .before .before in
     let clients = in-clients .clients in
@@ -245,11 +245,11 @@ returns-3 c =
     let s = starts .s in
     let j = lengths .j in
     let tested = rate-tested x own (plan .f) _ _ (rate .ensures) (omega (arith, slots .ensures)) in
-    let enough = tested ∙ not-false (rate .result) (in-starts .before .if1 .left) in
+    let rates = tested ∙ not-false (rate .result) (in-starts .before .if1 .left) in
     let found = stretch-tested x own (plan .f) _ s j _ _ (test .ensures) (slots .ensures) (lengths .inv .1) in
     let fails = found ∙ not-true (test .result) (c .if2 .taken) in
     let late : IsLate x own (plan .f) s j =
-    record { rate = enough; fails = fails; start = λ t k l. starts .inv .1 t l k; length = lengths .inv .3 } in
+    record { rate = rates; fails = fails; start = λ t k l. starts .inv .1 t l k; length = lengths .inv .3 } in
     first-at plan (args .from) (args .to) i _ (clients .inv .0) (omega arith) (clients .inv .1) late
 
 pub first-failure-spec : {M : Type 1} → statement M
@@ -267,11 +267,11 @@ first-failure-spec =
     array-copy-out-required
     add-slots
     slots-requires
-    has-rate-requires
+    enough-requires
     add-t23
     starts-holds
     lengths-holds
-    in-time-requires
+    covers-requires
     add-t28
     array-read-owner
     add-owned-by

@@ -14,17 +14,17 @@ use Rattle.records.proofs.Lists.{padded-none, padded-more}
 use Rattle.records.proofs.Checks.{one-or-none}
 use Rattle.plan.specs.Plan.{ownIn}
 use Rattle.figures.proofs.Laws.{count-small, count-on, place-first}
-use Rattle.search.specs.Mend.{slotIn}
+use Rattle.search.specs.Trees.{slotIn}
 use Rattle.search.proofs.Sets.{idle-before, slot-at}
 use Rattle.search.proofs.inner.fill.Statement.{statement}
 use Rattle.search.proofs.inner.fill.Tie as tie
 
 abbrev Inv-loop : tie.InvT-loop
-Inv-loop given f owners table₀ j₀ x₀ table j x =
-    (x ≤ f) × (j ≡ within (ownIn owners f 0) 0 x) × (table ≡ padded (slotIn owners f given) x 64 0)
+Inv-loop filling f owners table₀ j₀ x₀ table j x =
+    (x ≤ f) × (j ≡ within (ownIn owners f 0) 0 x) × (table ≡ padded (slotIn owners f filling) x 64 0)
 
 abbrev μ-loop : tie.MeasureT-loop
-μ-loop given f owners table₀ j₀ x₀ table j x = f - x
+μ-loop filling f owners table₀ j₀ x₀ table j x = f - x
 
 loop-holds : tie.Need-loop-holds Inv-loop μ-loop
 loop-holds c = (omega arith, sym (within-none _ _), padded-none _ 64 0)
@@ -66,10 +66,10 @@ loop-again c =
     let loop = c .before .before .before .loop in
     let x = loop .x in
     let place = place-first f x (omega arith) in
-    let stored = slot-at owners f (args .given) x (loop .j) _ (loop .inv .1) (c .before .slot .ensures) in (
+    let stored = slot-at owners f (args .filling) x (loop .j) _ (loop .inv .1) (c .before .slot .ensures) in (
       omega arith,
       count-on owners f 0 0 x (loop .j) x _ (loop .inv .1) place (c .owned-by .ensures),
-      rw (loop .inv .2, stored) (padded-more (slotIn owners f (args .given)) x 64 0 (omega arith)),
+      rw (loop .inv .2, stored) (padded-more (slotIn owners f (args .filling)) x 64 0 (omega arith)),
     )
 
 returns : tie.Need-returns Inv-loop μ-loop

@@ -34,7 +34,8 @@ returns c =
     let made = c .before .before .before .fill .ensures in
     let judged = leaf-judged plan (args .i) (args .g) (args .node) _ _ (verdict .result) (omega arith) (omega arith)
     (omega arith) set made (verdict .ensures) owners long leads in
-    rw (c .needed .ensures) (suits-by plan (args .i) owners (verdict .result) judged)
+    let needed = c .needed in
+    suits-by plan (args .i) owners (verdict .result) (needed .result) judged (needed .ensures .0) (needed .ensures .1)
 
 pub leaf-spec : {M : Type 1} → statement M
 leaf-spec =

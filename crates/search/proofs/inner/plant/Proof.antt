@@ -1,4 +1,4 @@
--- `search::inner::plant` meets its contract: the entries from z on are right.
+-- `search::inner::plant` meets its contract: the numbers from z on are right.
 -- Assumes nothing.
 use mathlib.Core.Path.{_≡_, _∙_}
 use Prim.Native.Nat.{ℕ, _+_, _-_, _*_, _≤_}
@@ -24,8 +24,8 @@ loop-holds c = (omega arith, length-replicate {A = ℕ} 4096 0, record { right =
 sub-z : tie.Need-sub-z Inv-loop μ-loop
 sub-z c = search needs
 
-entry-requires : tie.Need-entry-requires Inv-loop μ-loop
-entry-requires c κs = search needs
+number-at-requires : tie.Need-number-at-requires Inv-loop μ-loop
+number-at-requires c κs = search needs
 
 array-write-trees : tie.Need-array-write-trees Inv-loop μ-loop
 array-write-trees c = search needs
@@ -43,8 +43,8 @@ loop-again c =
     let e : loop .z ≡ z + 1 = omega arith in
     let done = rw e at (loop .inv .2) in (
       omega arith,
-      length-set trees z (c .entry .result) ∙ loop .inv .1,
-      right-more plan (args .g) (plan .n) trees z (c .entry .result) (omega arith) done (c .entry .ensures),
+      length-set trees z (c .number-at .result) ∙ loop .inv .1,
+      right-more plan (args .g) (plan .n) trees z (c .number-at .result) (omega arith) done (c .number-at .ensures),
     )
 
 returns : tie.Need-returns Inv-loop μ-loop
@@ -59,7 +59,7 @@ plant-spec =
     mul-z
     loop-holds
     sub-z
-    entry-requires
+    number-at-requires
     array-write-trees
     loop-less
     loop-again

@@ -1,4 +1,4 @@
--- `judge::inner::in_time` meets its contract: it is the rule's own comparison.
+-- `judge::inner::covers` meets its contract: it is the rule's own comparison.
 -- Assumes nothing.
 use mathlib.Core.Path.{_≡_}
 use Prim.Native.Nat.{ℕ, _+_, _*_}
@@ -9,8 +9,8 @@ use borrow.Author.Needs.{needs}
 use Rattle.plan.specs.declared.Client.{Client}
 use Rattle.figures.proofs.Laws.{product-small}
 use Rattle.judge.specs.Rules.{covers}
-use Rattle.judge.proofs.inner.in_time.Statement.{statement}
-use Rattle.judge.proofs.inner.in_time.Tie as tie
+use Rattle.judge.proofs.inner.covers.Statement.{statement}
+use Rattle.judge.proofs.inner.covers.Tie as tie
 
 mul-times : tie.Need-mul-times
 mul-times c = let a = c .args in omega (arith, product-small (a .m) (a .j) (omega arith) (omega arith))
@@ -52,8 +52,8 @@ returns c =
     let got : c .times3 .result ≡ args .f * args .w * x .b = omega (arith, c .times3 .ensures .0) in
     compared x (args .f) (args .m) (args .j) (args .w) _ _ _ due late got
 
-pub in-time-spec : {M : Type 1} → statement M
-in-time-spec =
+pub covers-spec : {M : Type 1} → statement M
+covers-spec =
     tie.close
     (tie.spec
     mul-times

@@ -1,5 +1,5 @@
--- `search::inner::entry` meets its contract: above the leaves it is the lesser of the two nodes below, at a leaf what
--- the verdict says, and no filling leads past the leaves.
+-- `search::inner::number_at` meets its contract: above the leaves it is the least that the two nodes below allow, at a
+-- leaf what the verdict says, and no filling leads past the leaves.
 -- Assumes nothing.
 use mathlib.Core.Path.{_≡_, ap, _∙_}
 use Prim.Native.Nat.{ℕ, _+_, _*_, min}
@@ -8,8 +8,8 @@ use borrow.Author.Needs.{needs}
 use lib.ListN.{getD}
 use Rattle.explore.proofs.Needs.{node-below}
 use Rattle.search.proofs.Planting.{leaves-small, leaves-shifted, leaves-doubled}
-use Rattle.search.proofs.inner.entry.Statement.{statement}
-use Rattle.search.proofs.inner.entry.Tie as tie
+use Rattle.search.proofs.inner.number_at.Statement.{statement}
+use Rattle.search.proofs.inner.number_at.Tie as tie
 
 shl-leaves : tie.Need-shl-leaves
 shl-leaves c = search needs
@@ -23,21 +23,21 @@ mul-below-2 c = search needs
 add-below : tie.Need-add-below
 add-below c = search needs
 
-element-copy-out-lesser : tie.Need-element-copy-out-lesser
-element-copy-out-lesser c =
+element-copy-out-least-need : tie.Need-element-copy-out-least-need
+element-copy-out-least-need c =
     let args = c .before .args in
     omega (arith, leaves-shifted (args .g) (omega arith), leaves-small (args .g) (omega arith))
 
-add-lesser : tie.Need-add-lesser
-add-lesser c = search needs
+add-least-need : tie.Need-add-least-need
+add-least-need c = search needs
 
-element-copy-out-lesser-2 : tie.Need-element-copy-out-lesser-2
-element-copy-out-lesser-2 c =
+element-copy-out-least-need-2 : tie.Need-element-copy-out-least-need-2
+element-copy-out-least-need-2 c =
     let args = c .before .before .args in
     omega (arith, leaves-shifted (args .g) (omega arith), leaves-small (args .g) (omega arith))
 
-lesser-requires : tie.Need-lesser-requires
-lesser-requires c κs = search needs
+least-need-requires : tie.Need-least-need-requires
+least-need-requires c κs = search needs
 
 returns : tie.Need-returns
 returns c =
@@ -46,7 +46,7 @@ returns c =
     let trees = args .trees .now in
     let e : below + 1 ≡ args .i * 512 + (2 * args .x + 1) = omega arith in
     record {
-      above = λ x> x<. c .lesser .ensures ∙ ap (λ (k : ℕ). min (getD trees below 0) (getD trees k 0 + 1)) e;
+      above = λ x> x<. c .least-need .ensures ∙ ap (λ (k : ℕ). min (getD trees below 0) (getD trees k 0 + 1)) e;
       leaf = λ low. absurd (omega (arith, leaves-shifted (args .g) (omega arith)));
     }
 
@@ -81,18 +81,18 @@ returns-3 c =
           absurd (omega (arith, leaves, past, leads, node-below (args .i + 1) owners (args .g + 1) (omega arith)));
     }
 
-pub entry-spec : {M : Type 1} → statement M
-entry-spec =
+pub number-at-spec : {M : Type 1} → statement M
+number-at-spec =
     tie.close
     (tie.spec
     shl-leaves
     mul-below
     mul-below-2
     add-below
-    element-copy-out-lesser
-    add-lesser
-    element-copy-out-lesser-2
-    lesser-requires
+    element-copy-out-least-need
+    add-least-need
+    element-copy-out-least-need-2
+    least-need-requires
     returns
     add-if2
     leaf-requires

@@ -1,4 +1,4 @@
--- `judge::inner::has_rate` meets its contract: it is the rule's own comparison.
+-- `judge::inner::enough` meets its contract: it is the rule's own comparison.
 -- Assumes nothing.
 use mathlib.Core.Path.{_≡_}
 use Prim.Native.Nat.{ℕ, _*_}
@@ -8,8 +8,8 @@ use lib.Dec.{leb}
 use borrow.Author.Needs.{needs}
 use Rattle.plan.specs.declared.Client.{Client}
 use Rattle.judge.specs.Rules.{enough}
-use Rattle.judge.proofs.inner.has_rate.Statement.{statement}
-use Rattle.judge.proofs.inner.has_rate.Tie as tie
+use Rattle.judge.proofs.inner.enough.Statement.{statement}
+use Rattle.judge.proofs.inner.enough.Tie as tie
 
 times-requires : tie.Need-times-requires
 times-requires c κs = search needs
@@ -29,5 +29,5 @@ returns c =
     let got : c .times2 .result ≡ args .m * x .q = omega (arith, c .times2 .ensures .0) in
     compared x (args .f) (args .m) _ _ due got
 
-pub has-rate-spec : {M : Type 1} → statement M
-has-rate-spec = tie.close (tie.spec times-requires times-requires-2 returns)
+pub enough-spec : {M : Type 1} → statement M
+enough-spec = tie.close (tie.spec times-requires times-requires-2 returns)
