@@ -1,8 +1,8 @@
 -- Demand 2; judging and searching stand in Accepted.antt. Plan files: "Plans written are read back the same, and
--- streams read are written back byte for byte". The hypotheses that a list holds bytes (Bytes) and that a plan's numbers
--- have two bytes (Held) are what the types say: the calls `rewritten` and `reread` of this crate show both, and so do
--- the contracts of `stream::read` and `stream::write`. Figures: the latency L/m is the least one of Definition 1, over
--- the runs of one client's queue.
+-- streams read are written back byte for byte". The hypotheses that a list holds bytes (Bytes) and that a plan's
+-- numbers have two bytes (Held) are what the types say: the calls `rewritten` and `reread` of this crate show both, and
+-- so do the contracts of `stream::read` and `stream::write`. Figures: the latency L/m is the least one of Definition 1,
+-- over the runs of one client's queue.
 -- Assumes nothing.
 use mathlib.Core.Path.{_≡_, refl, ap}
 use mathlib.Core.List.{List}
