@@ -13,7 +13,8 @@ use Rattle.judge.specs.declared.Verdict.the-variants.{Ok, Rate, Late}
 unfoldable pub enough : Client → (f m : ℕ) → Bool
 enough x f m = leb (x .p * f) (m * x .q)
 
--- "and is in time when L × b ≤ a × m", of one stretch: its j slots, w of them the client's, have m × j − f × w for L
+-- "and is in time when L × b ≤ a × m", of one stretch of j slots, w of them the client's: m × j − f × w in place of L,
+-- without the subtraction
 unfoldable pub covers : Client → (f m j w : ℕ) → Bool
 covers x f m j w = leb (m * j * x .b) (x .a * m + f * w * x .b)
 

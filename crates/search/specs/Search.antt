@@ -22,14 +22,15 @@ use Rattle.search.specs.declared.Searched.{Searched}
 abbrev pub idlePlan : ℕ → ℕ → List Client → Plan
 idlePlan f n clients = record { f = f; n = n; clients = clients; owners = replicate 64 0 }
 
--- "search with f > 8 or n > 4"
+-- "search with f > 8 or n > 4": the longest frame that is searched
 abbrev pub mostSlots : ℕ
 mostSlots = 8
 
+-- and the most clients
 abbrev pub mostClients : ℕ
 mostClients = 4
 
--- that is 16
+-- 16: f or n is more than that
 unfoldable pub sizeCheck : Plan → Outcome
 sizeCheck plan =
     orElse (need (leb (plan .f) mostSlots) refusal.tooLarge 0) (need (leb (plan .n) mostClients) refusal.tooLarge 0)
