@@ -33,10 +33,10 @@ neither a b l h = by (decLt a b) (decLt b a)
     by (no m) (no k) = omega arith
 
 module _ (x : Client) (own : ℕ → ℕ) (f : ℕ) where
-  pub lacking-not-ok : hasRate x own f ≡ false → IsOk x own f → ⊥
+  lacking-not-ok : hasRate x own f ≡ false → IsOk x own f → ⊥
   lacking-not-ok h ok = false-true (sym h ∙ ok .rate)
 
-  pub late-not-ok : (s j : ℕ) → IsLate x own f s j → IsOk x own f → ⊥
+  late-not-ok : (s j : ℕ) → IsLate x own f s j → IsOk x own f → ⊥
   late-not-ok s j late ok = false-true (sym (late .fails) ∙ ok .time s j)
 
   lacking-not-late : (s j : ℕ) → hasRate x own f ≡ false → IsLate x own f s j → ⊥

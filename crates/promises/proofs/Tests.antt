@@ -28,7 +28,7 @@ use Rattle.search.specs.Search.{withTable, AcceptedIn}
 
 -- ---- tests
 
-pub failed : (a : Bool) → pick a false true ≡ true → a ≡ false
+failed : (a : Bool) → pick a false true ≡ true → a ≡ false
 failed true h = false-true h
 failed false h = refl
 
@@ -37,7 +37,7 @@ unfoldable pub allBelow : ℕ → (ℕ → Bool) → Bool
 allBelow zero P = true
 allBelow (suc n) P = pick (allBelow n P) (P n) false
 
-pub each-below : (n : ℕ) (P : ℕ → Bool) → allBelow n P ≡ true → (i : ℕ) → i < n → P i ≡ true
+each-below : (n : ℕ) (P : ℕ → Bool) → allBelow n P ≡ true → (i : ℕ) → i < n → P i ≡ true
 unfolding allBelow
 each-below zero P h i l = absurd (omega arith)
 each-below (suc n) P h i l =
@@ -77,7 +77,7 @@ module _ (x : Client) (own : ℕ → ℕ) (f : ℕ) where
             lengths-suffice x frame (b .0) s (each-below f (inTime x own f s) (starts s l)));
       }
 
-  pub test-ok : IsOk x own f → okTest ≡ true
+  test-ok : IsOk x own f → okTest ≡ true
   unfolding okTest
   test-ok ok = rw (ok .rate) (below-each f _ (λ s l. below-each f (inTime x own f s) (λ j k. ok .time s j)))
 
@@ -107,7 +107,7 @@ module _ (x : Client) (own : ℕ → ℕ) (f : ℕ) where
 unfoldable pub acceptTest : Plan → Bool
 acceptTest plan = allBelow (plan .n) (λ i. okTest (clientOf plan i) (ownOf plan (i + 1)) (plan .f))
 
-pub accept-tested : (plan : Plan) → 0 < plan .f → acceptTest plan ≡ true → Accepted plan
+accept-tested : (plan : Plan) → 0 < plan .f → acceptTest plan ≡ true → Accepted plan
 unfolding acceptTest
 accept-tested plan f> h =
     record {
@@ -116,7 +116,7 @@ accept-tested plan f> h =
           (each-below (plan .n) _ h i l);
     }
 
-pub test-accept : (plan : Plan) → Accepted plan → acceptTest plan ≡ true
+test-accept : (plan : Plan) → Accepted plan → acceptTest plan ≡ true
 unfolding acceptTest
 test-accept plan accepted =
     below-each (plan .n) _ (λ i l.
@@ -128,7 +128,7 @@ unfoldable pub everyTable : ℕ → ℕ → (List ℕ → Bool) → Bool
 everyTable zero n Q = Q []
 everyTable (suc f) n Q = allBelow (suc n) (λ x. everyTable f n (λ t. Q (x ∷ t)))
 
-pub every-table : (f n : ℕ) (Q : List ℕ → Bool) → everyTable f n Q ≡ true → (u : List ℕ) → Table f n u → Q u ≡ true
+every-table : (f n : ℕ) (Q : List ℕ → Bool) → everyTable f n Q ≡ true → (u : List ℕ) → Table f n u → Q u ≡ true
 unfolding everyTable
 every-table zero n Q h [] t = h
 every-table zero n Q h (x ∷ u) t = absurd (omega (arith, t .long))

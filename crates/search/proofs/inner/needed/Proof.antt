@@ -9,11 +9,11 @@ use Rattle.judge.specs.declared.Verdict.the-variants.{Ok, Rate, Late}
 use Rattle.search.proofs.inner.needed.Statement.{statement}
 use Rattle.search.proofs.inner.needed.Tie as tie
 
-rate-not-ok : {A : Type 0} → _≡_ {A = Verdict} Rate Ok → A
-rate-not-ok h = let z : _≡_ {A = ℕ} 0 1 = cc in absurd (omega arith)
+rate-apart : {A : Type 0} → _≡_ {A = Verdict} Rate Ok → A
+rate-apart h = let z : _≡_ {A = ℕ} 0 1 = cc in absurd (omega arith)
 
-late-not-ok : {A : Type 0} → _≡_ {A = Verdict} Late Ok → A
-late-not-ok h = let z : _≡_ {A = ℕ} 0 1 = cc in absurd (omega arith)
+late-apart : {A : Type 0} → _≡_ {A = Verdict} Late Ok → A
+late-apart h = let z : _≡_ {A = ℕ} 0 1 = cc in absurd (omega arith)
 
 enum-told : tie.Need-enum-told
 enum-told c = search needs
@@ -28,10 +28,10 @@ returns : tie.Need-returns
 returns c = search needs
 
 returns-2 : tie.Need-returns-2
-returns-2 c = (λ z. absurd (omega arith), λ e. rate-not-ok (sym (c .enum-told2 .given .1) ∙ e))
+returns-2 c = (λ z. absurd (omega arith), λ e. rate-apart (sym (c .enum-told2 .given .1) ∙ e))
 
 returns-3 : tie.Need-returns-3
-returns-3 c = (λ z. absurd (omega arith), λ e. late-not-ok (sym (c .enum-told3 .given .1) ∙ e))
+returns-3 c = (λ z. absurd (omega arith), λ e. late-apart (sym (c .enum-told3 .given .1) ∙ e))
 
 pub needed-spec : {M : Type 1} → statement M
 needed-spec = tie.close (tie.spec enum-told enum-told-2 enum-told-3 returns returns-2 returns-3)
