@@ -14,24 +14,24 @@ use Rattle.frame.proofs.Queue.{part-length, served-within, served-first
 
 -- ---- demand 3
 
--- a stretch of j slots, w of them owned: enough rate and in time, so at least p/q × (j − a/b)
-guaranteed-by : (f m L p q a b j w : ℕ) → 0 < f → p * f ≤ m * q → L * b ≤ a * m → m * j ≤ L + f * w
+-- a stretch of j slots, w of them owned: enough rate and (m × j − f × w) × b ≤ a × m, so w is at least p/q × (j − a/b)
+pub guaranteed-by : (f m p q a b j w : ℕ) → 0 < f → p * f ≤ m * q → m * (b * j) ≤ a * m + f * (b * w)
     → Guaranteed p q a b j w
-guaranteed-by f zero L zero q a b j w f> rate late bound = omega arith
-guaranteed-by f zero L (suc p) q a b j w f> rate late bound =
+guaranteed-by f zero zero q a b j w f> rate time = omega arith
+guaranteed-by f zero (suc p) q a b j w f> rate time =
     let p> : 0 < suc p = omega arith in
     absurd (omega (arith, mul-pos p> f>))
-guaranteed-by f (suc m) L p q a b j w f> rate late bound =
-    let in-time : suc m * (b * j) ≤ a * suc m + f * (b * w) = omega (arith, late, mul-le-mul-left b bound) in
+guaranteed-by f (suc m) p q a b j w f> rate time =
     le-of-mul-le-mul-left {k = suc m}
-    (omega (arith, mul-le-mul-left p in-time, mul-le-mul-right (b * w) rate)) (omega arith)
+    (omega (arith, mul-le-mul-left p time, mul-le-mul-right (b * w) rate)) (omega arith)
 
 module _ {own : ℕ → ℕ} {f m L : ℕ} (frame : Frame own f m) (bounded : Bounded own f m L) where
   -- "enough rate when m × q ≥ p × f, and .. in time when L × b ≤ a × m": then every stretch has p/q × (j − a/b) slots
   pub stretch-guaranteed : (p q a b : ℕ) → p * f ≤ m * q → L * b ≤ a * m → (s j : ℕ)
       → Guaranteed p q a b j (within own s j)
   stretch-guaranteed p q a b rate late s j =
-      guaranteed-by f m L p q a b j (within own s j) (frame .f>) rate late (bounded .bound s j)
+      guaranteed-by f m p q a b j (within own s j) (frame .f>) rate
+      (omega (arith, late, mul-le-mul-left b (bounded .bound s j)))
 
   -- so many slots that L + k × f ≤ m × j have k of the client's among them
   pub stretch-enough : (s j k : ℕ) → L + k * f ≤ m * j → k ≤ within own s j

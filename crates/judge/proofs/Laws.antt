@@ -1,18 +1,19 @@
--- Laws of the two rules. Judging rests on one law of the rule of one stretch, `covers-round`: a whole frame more keeps
--- a stretch in time. So starts and lengths below f suffice. And every stretch is in time exactly when L × b ≤ a × m,
--- so that the verdict and the figures agree.
+-- Laws of the two rules, and of judging client after client. Judging rests on one law of the rule of one stretch,
+-- `covers-round`: a whole frame more keeps a stretch in time. So starts and lengths below f suffice, and the first
+-- stretch that is late lies in the frame. A client that is ok has demand 3's inequality in every stretch. And every
+-- stretch is in time exactly when L × b ≤ a × m, so that the verdict and the figures agree.
 -- Assumes nothing.
 use mathlib.Core.Path.{_≡_, refl, sym, ap, _∙_, subst}
 use mathlib.Core.Bool.{Bool, true, false}
 use Prim.Native.Nat.{ℕ, zero, suc, _+_, _*_, _/_, _%_, _≤_, _<_}
-use native.Mathlib.Nat.{mod-add-div', mod-lt, suc-mul, mul-le-mul-left, mul-le-mul-right, mul-pos, le-dest}
-use native.Mathlib.Nat.{le-of-mul-le-mul-left}
+use native.Mathlib.Nat.{mod-add-div', mod-lt, suc-mul, mul-le-mul-right, le-dest}
 use native.Mathlib.Decide.{ℕ-discrete, decLt}
 use native.Mathlib.Omega.{arith}
 use borrow.Author.Tests.{le-leb, leb-true}
 use Rattle.frame.specs.Frame.{slotsOf, within, Frame, IsScaled}
 use Rattle.frame.specs.Service.{Guaranteed}
 use Rattle.frame.proofs.Within.{within-add, within-frame, within-later, within-mod}
+use Rattle.frame.proofs.Service.{guaranteed-by}
 use Rattle.records.proofs.Checks.{false-true}
 use Rattle.plan.specs.declared.Client.{Client}
 use Rattle.plan.specs.declared.Plan.{Plan}
@@ -102,18 +103,9 @@ module _ (x : Client) {own : ℕ → ℕ} {f s j : ℕ} (frame : Frame own f (sl
 
 covers-guaranteed : (x : Client) (f m j w : ℕ) → 0 < f → enough x f m ≡ true → covers x f m j w ≡ true
     → Guaranteed (x .p) (x .q) (x .a) (x .b) j w
-covers-guaranteed x f m j w f> rate h = by m (rate-true x f m rate) (covers-true x f m j w h)
-  where
-    by : (m : ℕ) → x .p * f ≤ m * x .q → m * j * x .b ≤ x .a * m + f * w * x .b
-        → Guaranteed (x .p) (x .q) (x .a) (x .b) j w
-    by zero rates covered = none (x .p) rates
-      where
-        none : (p : ℕ) → p * f ≤ zero * x .q → Guaranteed p (x .q) (x .a) (x .b) j w
-        none zero l = omega arith
-        none (suc p) l = absurd (omega (arith, mul-pos {m = suc p} (omega arith) f>))
-    by (suc m) rates covered =
-        le-of-mul-le-mul-left {k = suc m}
-        (omega (arith, mul-le-mul-left (x .p) covered, mul-le-mul-right (x .b * w) rates)) (omega arith)
+covers-guaranteed x f m j w f> rate h =
+    guaranteed-by f m (x .p) (x .q) (x .a) (x .b) j w f> (rate-true x f m rate)
+    (omega (arith, covers-true x f m j w h))
 
 -- demand 3's inequality holds of every stretch
 pub ok-guaranteed : (x : Client) (own : ℕ → ℕ) (f : ℕ) → 0 < f → IsOk x own f → (s j : ℕ)

@@ -51,9 +51,9 @@ use Rattle.promises.proofs.Tests.{allBelow, fineTest, fine-tested, okTe
 use Rattle.promises.proofs.Tests.{late-tested, acceptTest, everyTable, lexTest, betterTest, noneTest}
 use Rattle.promises.proofs.Tests.{none-tested, bestTest, best-tested}
 
--- ---- a table as a plan
+-- ---- a schedule as a plan
 
--- client 1's slots, read off the table
+-- the client's slots, read off the schedule
 slotAt : Schedule → ℕ → ℕ
 slotAt t s = pick (among (s % t .f) (t .slots)) 1 0
 
@@ -199,7 +199,7 @@ module _ (t : Schedule) (m L : ℕ) (facts : Figured t m L) where
       let e = waits-once plan 1 k r (wait.Given slots) is allowed in
       (ap waitNumber e, ap waitIn e)
 
--- ---- judging a table, and the search
+-- ---- judging a schedule, and the search
 
 module _ (t : Schedule) (client : Client) (tested : fineTest (planCheck (tablePlan client t)) ≡ true) where
   judged-plan : Plan
@@ -306,6 +306,6 @@ all-right (q ∷ qs) h = let g = both-true (test q) (testAll qs) h in (right q (
 pub bench : AllRight questions
 unfolding questions test slotAt scaledOf lackFrom largest lack within waitOf okTest lateTest fineTest noneTest bestTest
     acceptTest everyTable allBelow betterTest lexTest owned enough covers ownIn searchPlan searchCheck sizeCheck
-    tablePlan planCheck
-    requirementsCheck ownersCheck clientStep ownerStep clientCheck ownerCheck rangeCheck firstOf firsts padded
+    tablePlan planCheck requirementsCheck ownersCheck clientStep ownerStep clientCheck ownerCheck rangeCheck firstOf
+    firsts padded
 bench = all-right questions refl

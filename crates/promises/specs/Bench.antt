@@ -1,4 +1,4 @@
--- The bench examples of document 01 that are marked P, 11 and 12 with them, and two more tables: a question, and the
+-- The bench examples of document 01 that are marked P, 11 and 12 with them, and two more schedules: a question, and the
 -- only answer that the contract allows. `bench` in proofs/Bench.antt proves them all.
 use mathlib.Core.Path.{_≡_}
 use mathlib.Core.Bool.{Bool, true, false}
@@ -32,7 +32,7 @@ abbrev pub among : ℕ → List ℕ → Bool
 among x [] = false
 among x (y ∷ ys) = pick (eqb x y) true (among x ys)
 
--- the table as the plan of one client, which requires this much
+-- the schedule as the plan of its client, which requires this much
 unfoldable pub tablePlan : Client → Schedule → Plan
 tablePlan client t =
     record {
@@ -56,11 +56,11 @@ searchPlan f n client = idlePlan f n (padded (λ i. client) n 8 noClient)
 
 -- a question with its answer
 pub data Question : Type 0 where
-  -- a table's client: m and L
+  -- a schedule's m and L
   figure : Schedule → (m L : ℕ) → Question
   -- its wait for k
   waiting : Schedule → (k slots : ℕ) → Question
-  -- judging the table, whose client requires this much: accepted
+  -- judging its plan, the client requiring this much: accepted
   accepted : Schedule → Client → Question
   -- or late, from slot s on for j slots
   late : Schedule → Client → (s j : ℕ) → Question
@@ -89,7 +89,7 @@ abbrev pub AllRight : List Question → Type 0
 AllRight [] = Unit {0}
 AllRight (e ∷ es) = Right e × AllRight es
 
--- the tables of P1 to P6
+-- the schedules of P1 to P6
 abbrev pub p1 : Schedule
 p1 = record { f = 6; slots = 0 ∷ 1 ∷ [] }
 
@@ -116,7 +116,7 @@ round = record { f = 6; slots = 1 ∷ 2 ∷ [] }
 abbrev pub figure3 : Schedule
 figure3 = record { f = 10; slots = 3 ∷ 6 ∷ 7 ∷ 8 ∷ 9 ∷ [] }
 
--- P1 to P6, the table of the second slip, and the paper's schedule; P7 and P8, late by the stretch that begins in slot
+-- P1 to P6, the schedule of the second slip, and the paper's; P7 and P8, late by the stretch that begins in slot
 -- 3 and has one slot in five; P9 and P10, 11 and 12
 unfoldable pub questions : List Question
 questions =

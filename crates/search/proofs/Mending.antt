@@ -45,7 +45,7 @@ module _ (P Q : List ℕ → Type 0) (f n : ℕ) (there : (t : List ℕ) → Tab
 -- ---- from fillings to tables
 
 module _ (plan : Plan) (g : ℕ) (trees : List ℕ) (room : plan .f ≤ length (plan .owners)) (g= : g ≡ idleOf plan)
-    (g≤ : g ≤ 8) (low : (x : ℕ) → x < plan .f → ownerOf plan x ≤ plan .n)
+    (g≤ : g ≤ 8) (most : (x : ℕ) → x < plan .f → ownerOf plan x ≤ plan .n)
     (planted : Planted plan g (plan .n) trees) where
   abbrev o : List ℕ
   o = tableOf plan room
@@ -54,7 +54,7 @@ module _ (plan : Plan) (g : ℕ) (trees : List ℕ) (room : plan .f ≤ length (
   table-most x = by (decLt x (plan .f))
     where
       by : Dec (x < plan .f) → getD o x 0 ≤ plan .n
-      by (yes l) = rw (getD-take (plan .f) (plan .owners) x 0 l) (low x l)
+      by (yes l) = rw (getD-take (plan .f) (plan .owners) x 0 l) (most x l)
       by (no h) = omega (arith, List·getD-eq-default o 0 {n = x} (omega (arith, table-long plan room)))
 
   -- what a table that mends gives to the idle slots
@@ -151,11 +151,11 @@ module _ (f n : ℕ) (clients : List Client) where
       by (yes l) = getD-replicate 64 x 0 0 l
       by (no h) = List·getD-eq-default (replicate {A = ℕ} 64 0) 0 {n = x} (omega arith)
 
-  pub idle-low : (x : ℕ) → x < f → ownerOf plan x ≤ n
-  idle-low x l = omega (arith, idle-owner x)
+  pub idle-owners : (x : ℕ) → x < f → ownerOf plan x ≤ n
+  idle-owners x l = omega (arith, idle-owner x)
 
-  pub idle-most : idleOf plan ≤ f
-  idle-most = within-most (ownOf plan 0) (own-most (plan .owners) f 0) 0 f
+  pub idle-slots : idleOf plan ≤ f
+  idle-slots = within-most (ownOf plan 0) (own-most (plan .owners) f 0) 0 f
 
   pub mends-accepted : (found : Bool) (owners : List ℕ) → Finds (Mends plan) f n found owners
       → Finds (AcceptedIn plan) f n found owners

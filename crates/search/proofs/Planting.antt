@@ -21,18 +21,18 @@ use Rattle.search.specs.Trees.{filled, Suits, IsNumber, Planted}
 -- a number stored at z or before moves nothing that node x looks at
 number-kept : (plan : Plan) (g : ℕ) (trees : List ℕ) (z new i x number : ℕ) → z ≤ i * 512 + x
     → IsNumber plan g trees i x number → IsNumber plan g (set trees z new) i x number
-number-kept plan g trees z new i x number l entry =
+number-kept plan g trees z new i x number l is =
     record {
       above = λ x> x<.
           rw (
             getD-set-other trees z (i * 512 + 2 * x) new 0 (λ e. omega arith),
             getD-set-other trees z (i * 512 + (2 * x + 1)) new 0 (λ e. omega arith),
           )
-          (entry .above x> x<);
-      leaf = entry .leaf;
+          (is .above x> x<);
+      leaf = is .leaf;
     }
 
--- the entries from place z on are right
+-- the numbers from place z on are right
 pub record RightFrom (plan : Plan) (g n : ℕ) (trees : List ℕ) (z : ℕ) : Type 0 where
   pub right : (i x : ℕ) → i < n → x < 512 → z ≤ i * 512 + x → IsNumber plan g trees i x (needAt trees i x)
 
@@ -40,7 +40,7 @@ pub record RightFrom (plan : Plan) (g n : ℕ) (trees : List ℕ) (z : ℕ) : Ty
 pub right-more : (plan : Plan) (g n : ℕ) (trees : List ℕ) (z new : ℕ) → z < length trees
     → RightFrom plan g n trees (z + 1) → IsNumber plan g trees (z / 512) (z % 512) new
     → RightFrom plan g n (set trees z new) z
-right-more plan g n trees z new l done entry =
+right-more plan g n trees z new l done is =
     record { right = λ i x i< x< z≤. by i x i< x< z≤ (ℕ-discrete (i * 512 + x) z) }
   where
     by : (i x : ℕ) → i < n → x < 512 → z ≤ i * 512 + x → Dec (i * 512 + x ≡ z)
@@ -48,7 +48,7 @@ right-more plan g n trees z new l done entry =
     by i x i< x< z≤ (yes e) =
         let client : z / 512 ≡ i = omega arith in
         let node : z % 512 ≡ x = omega arith in
-        let here : IsNumber plan g trees i x new = rw (client, node) at entry in
+        let here : IsNumber plan g trees i x new = rw (client, node) at is in
         rw (e, getD-set-same trees z new 0 l) (number-kept plan g trees z new i x new z≤ here)
     by i x i< x< z≤ (no e) =
         rw (getD-set-other trees z (i * 512 + x) new 0 e)

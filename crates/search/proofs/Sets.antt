@@ -111,10 +111,10 @@ idle-before plan x l e =
     omega (arith, within-more own 0 x, within-grows own 0 (x + 1) (plan .f) (omega arith))
 
 -- what the loop stores
-pub slot-at : (owners : List ℕ) (f : ℕ) (given : List ℕ) (x j r : ℕ) → j ≡ within (ownIn owners f 0) 0 x
-    → r ≡ pick (eqb (getD owners x 0) 0) (getD given j 0) (getD owners x 0) → r ≡ slotIn owners f given x
+pub slot-at : (owners : List ℕ) (f : ℕ) (filling : List ℕ) (x j r : ℕ) → j ≡ within (ownIn owners f 0) 0 x
+    → r ≡ pick (eqb (getD owners x 0) 0) (getD filling j 0) (getD owners x 0) → r ≡ slotIn owners f filling x
 unfolding slotIn
-slot-at owners f given x j r e h = h ∙ rw e
+slot-at owners f filling x j r e h = h ∙ rw e
 
 -- an owned slot keeps its owner
 pub slot-kept : (plan : Plan) (u : List ℕ) (x : ℕ) → 0 < ownerOf plan x → slotOf plan u x ≡ ownerOf plan x
@@ -136,7 +136,7 @@ slot-map h plan u v alike x l = by (eqb (ownerOf plan x) 0) refl
     by true e = alike j (idle-before plan x l (eqb-true (ownerOf plan x) 0 e))
     by false e = refl
 
--- places past those that are given are not read
+-- places of a filling past the idle slots are not read
 pub filled-front : (plan : Plan) (u : List ℕ) (x : ℕ) → x < plan .f
     → slotOf plan u x ≡ slotOf plan (take (idleOf plan) u) x
 filled-front plan u =

@@ -126,7 +126,8 @@ fn leaf(plan: Plan, g: usize, i: usize, node: usize) -> u8
     needed(verdict(tried, i + 1))
 }
 
-// The least that a client needs where the next place is another's, or its own and it then needs one less.
+// What a client needs above two nodes: what it needs where the next place is another's, or one more than where it is
+// its own.
 fn least_need(other: u8, own: u8) -> u8
     ensures { λ r. ⌜ r ≡ min other (own + 1) ⌝ }
 {

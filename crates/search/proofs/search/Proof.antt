@@ -8,7 +8,7 @@ use borrow.Author.Needs.{needs}
 use Rattle.records.proofs.Checks.{refuses}
 use Rattle.search.specs.Search.{idlePlan, AcceptedIn, Finds}
 use Rattle.search.proofs.Questions.{search-fine}
-use Rattle.search.proofs.Mending.{idle-low, idle-most, mends-accepted}
+use Rattle.search.proofs.Mending.{idle-owners, idle-slots, mends-accepted}
 use Rattle.search.proofs.search.Statement.{statement}
 use Rattle.search.proofs.search.Tie as tie
 
@@ -30,9 +30,9 @@ mend-requires c κs =
     let plan = idlePlan (args .f) (args .n) (args .clients) in
     let ok = search-fine plan (sym (c .before .before .check-search .ensures) ∙ c .enum-told .given .1) in
     let bounds = ok .bounds in
-    let idle = idle-most (args .f) (args .n) (args .clients) in (
+    let idle = idle-slots (args .f) (args .n) (args .clients) in (
       (bounds .f-low, bounds .f-high, bounds .n-high, omega (arith, idle, ok .short)),
-      idle-low (args .f) (args .n) (args .clients),
+      idle-owners (args .f) (args .n) (args .clients),
     )
 
 returns-2 : tie.Need-returns-2
