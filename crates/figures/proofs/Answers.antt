@@ -1,10 +1,10 @@
 -- What the answers' contracts ask where a check refuses and where all pass, and what an answer that was given says.
 -- Assumes nothing.
 use mathlib.Core.Path.{_≡_, refl, sym, ap, _∙_}
-use Prim.Native.Nat.{ℕ, _≤_}
+use Prim.Native.Nat.{ℕ, _≤_, _<_}
 use native.Mathlib.Nat.{mul-pos}
 use native.Mathlib.Omega.{arith}
-use Rattle.frame.specs.Frame.{IsWait}
+use Rattle.frame.specs.Frame.{Frame, IsScaled, IsWait}
 use Rattle.frame.proofs.Limits.{scaled-small}
 use Rattle.records.specs.Refusal as refusal
 use Rattle.records.specs.First.{orElse, numberOf}
@@ -18,7 +18,7 @@ use Rattle.figures.specs.declared.Figure.{Figure}
 use Rattle.figures.specs.declared.Figures.the-variants as figures
 use Rattle.figures.specs.declared.Wait.the-variants as wait
 use Rattle.figures.specs.Check.{figureCheck, waitingCheck, waitCheck}
-use Rattle.figures.specs.Figures.{IsFigure, IsFigures, IsWaitFor}
+use Rattle.figures.specs.Figures.{IsFigure, IsFigures, Waits, IsWaitFor}
 use Rattle.figures.proofs.Laws.{frame-of, count-small}
 use Rattle.figures.proofs.Questions.{Asked, figure-numbered, figure-fine, wait-fine, wait-numbered}
 
@@ -38,6 +38,24 @@ module _ (plan : Plan) (c : ℕ) where
   given-fine figure is =
       let numbered = figure-numbered refusal.noSlot (omega arith) plan c in
       numbered-fine refusal.noSlot (figureCheck plan c) numbered (sym (is .number))
+
+  -- it is the client's: its m is the figure's, and so is its L
+  pub given-frame : (figure : Figure) → IsFigures plan c (figures.Given figure)
+      → Frame (ownOf plan c) (plan .f) (figure .slots)
+  given-frame figure is =
+      let fine = given-fine figure is in
+      rw (is .figure fine .slots) (frame-of plan c (figure-fine plan c fine .checked .bounds .f-low))
+
+  pub given-scaled : (figure : Figure) → IsFigures plan c (figures.Given figure)
+      → IsScaled (ownOf plan c) (plan .f) (figure .slots) (figure .scaled)
+  given-scaled figure is =
+      let right = is .figure (given-fine figure is) in
+      rw (right .slots) (right .scaled)
+
+  pub given-owns : (figure : Figure) → IsFigures plan c (figures.Given figure) → 0 < figure .slots
+  given-owns figure is =
+      let fine = given-fine figure is in
+      omega (arith, is .figure fine .slots, figure-fine plan c fine .owns)
 
   pub refused-not-fine : (number : ℕ) → IsFigures plan c (figures.Refused number)
       → figureCheck plan c ≡ outcome.Fine → ⊥
@@ -94,3 +112,7 @@ module _ (plan : Plan) (c : ℕ) where
   wait-refused-not-fine k number is e =
       let ok = wait-fine plan c k e in
       omega (arith, is .wait e .least .enough, mul-pos (ok .low) (ok .asked .checked .bounds .f-low))
+
+  -- and it is the client's: its m and its L
+  pub given-waits : (k slots : ℕ) → IsWaitFor plan c k (wait.Given slots) → Waits (ownOf plan c) (plan .f) k slots
+  given-waits k slots is = is .wait (wait-given-fine k slots is)

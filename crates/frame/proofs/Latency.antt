@@ -14,7 +14,7 @@ use lib.ListN.{length, take, replicate, length-replicate}
 use Rattle.frame.specs.Frame.{within, Frame, Bounded, IsScaled}
 use Rattle.frame.specs.Queue.{Rule, mostArriving, Lawful, Arrivals, serve, queue, after, left, total}
 use Rattle.frame.specs.Queue.{taken, served, pending}
-use Rattle.frame.specs.Service.{Guaranteed, Busy, Satisfies, SatisfiesEmpty, IsLatency}
+use Rattle.frame.specs.Service.{Guaranteed, Busy, Satisfies, SatisfiesEmpty}
 use Rattle.frame.proofs.Within.{slots-most}
 use Rattle.frame.proofs.Scaled.{Short, below-reached}
 use Rattle.frame.proofs.Queue.{served-all}
@@ -142,15 +142,6 @@ module _ (rule : Rule) {own : ℕ → ℕ} {f m : ℕ} (frame : Frame own f m) w
       → L * y ≤ x * m
   latency-least law f≤ scaled x y sat =
       latency-least-empty law f≤ scaled x y (λ s xs arrivals busy. sat s 0 xs (omega arith) arrivals busy)
-
-  -- Definition 1: L/m is the service latency of a client that owns a slot
-  pub latency-is : {L : ℕ} → Lawful rule → f ≤ 64 → 0 < m → IsScaled own f m L → IsLatency rule own f m L m
-  latency-is {L} law f≤ m> scaled =
-      record {
-        y> = m>;
-        satisfies = latency-satisfies rule frame (scaled .bounded) L m (omega arith);
-        least = λ x y y> sat. latency-least law f≤ scaled x y sat;
-      }
 
   -- "in time when L × b ≤ a × m": exactly when a/b satisfies the equation
   pub in-time-exactly : {L : ℕ} → Lawful rule → f ≤ 64 → IsScaled own f m L → (a b : ℕ)

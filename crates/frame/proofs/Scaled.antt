@@ -2,7 +2,7 @@
 -- Assumes nothing.
 use mathlib.Core.Path.{_≡_, refl, ap, subst}
 use Prim.Native.Nat.{ℕ, zero, suc, _+_, _-_, _*_, _/_, _%_, _≤_, _<_, max}
-use native.Mathlib.Nat.{div-add-mod', mod-lt, lt-div-mul-add, div-lt-iff-lt-mul}
+use native.Mathlib.Nat.{div-add-mod', mod-lt, lt-div-mul-add, div-lt-iff-lt-mul, mul-le-mul-right}
 use native.Mathlib.Decide.{decLe, ℕ-discrete}
 use native.Mathlib.Numerals.{add-one}
 use native.Mathlib.Omega.{arith}
@@ -128,3 +128,8 @@ wait-is f m L k m> = wait-by f m L k (L + k * f + (m - 1)) m> refl
 
 pub wait-one : {f m L k r r′ : ℕ} → IsWait f m L k r → IsWait f m L k r′ → r ≡ r′
 wait-one {f} {m} {L} {k} {r} {r′} a b = omega (arith, a .least r′ (b .enough), b .least r (a .enough))
+
+-- more requests wait as long or longer
+pub wait-grows : {f m L k k′ r r′ : ℕ} → k ≤ k′ → IsWait f m L k r → IsWait f m L k′ r′ → r ≤ r′
+wait-grows {f} {m} {L} {k} {k′} {r} {r′} l a b =
+    a .least r′ (omega (arith, mul-le-mul-right f l, b .enough))

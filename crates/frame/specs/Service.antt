@@ -33,9 +33,3 @@ module _ (rule : Rule) (own : ℕ → ℕ) (f m : ℕ) where
   abbrev pub SatisfiesEmpty : ℕ → ℕ → Type 0
   SatisfiesEmpty x y =
       (s : ℕ) (xs : List ℕ) → Arrivals xs → Busy s 0 xs → Guaranteed m f x y (length xs) (served rule own s 0 xs)
-
-  -- "The minimum non-negative constant satisfying the equation is the service latency": of all fractions, it is x/y
-  pub record IsLatency (x y : ℕ) : Type 0 where
-    pub y> : 0 < y
-    pub satisfies : Satisfies x y
-    pub least : (x′ y′ : ℕ) → 0 < y′ → Satisfies x′ y′ → x * y′ ≤ x′ * y

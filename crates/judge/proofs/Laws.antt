@@ -6,7 +6,7 @@
 use mathlib.Core.Path.{_≡_, refl, sym, ap, _∙_, subst}
 use mathlib.Core.Bool.{Bool, true, false}
 use Prim.Native.Nat.{ℕ, zero, suc, _+_, _*_, _/_, _%_, _≤_, _<_}
-use native.Mathlib.Nat.{mod-add-div', mod-lt, suc-mul, mul-le-mul-right, le-dest}
+use native.Mathlib.Nat.{mod-add-div', mod-lt, suc-mul, zero-mul, mul-pos, mul-le-mul-right, le-dest}
 use native.Mathlib.Decide.{ℕ-discrete, decLt}
 use native.Mathlib.Omega.{arith}
 use borrow.Author.Tests.{le-leb, leb-true}
@@ -18,10 +18,11 @@ use Rattle.records.proofs.Checks.{false-true}
 use Rattle.plan.specs.declared.Client.{Client}
 use Rattle.plan.specs.declared.Plan.{Plan}
 use Rattle.plan.specs.Plan.{clientOf, ownOf}
+use Rattle.plan.proofs.Laws.{Checked}
 use Rattle.judge.specs.declared.Verdict.{Verdict}
 use Rattle.judge.specs.declared.Verdict.the-variants.{Ok, Rate, Late}
 use Rattle.judge.specs.Rules.{enough, covers, hasRate, inTime, IsOk, IsLate, IsVerdict}
-use Rattle.judge.specs.Judge.{ClientOk, AllOk, First, JudgedAs}
+use Rattle.judge.specs.Judge.{ClientOk, AllOk, Accepted, First, JudgedAs}
 
 -- ---- enough rate
 
@@ -32,6 +33,11 @@ rate-true x f m h = leb-true (x .p * f) (m * x .q) h
 pub rate-pass : (x : Client) (f m : ℕ) → x .p * f ≤ m * x .q → enough x f m ≡ true
 unfolding enough
 rate-pass x f m h = le-leb (x .p * f) (m * x .q) h
+
+-- a client that requires a rate and has it owns a slot
+pub rate-owns : (x : Client) (f m : ℕ) → 1 ≤ x .p → 0 < f → enough x f m ≡ true → 0 < m
+rate-owns x f zero p> f> h = absurd (omega (arith, mul-pos p> f>, rate-true x f 0 h, zero-mul (x .q)))
+rate-owns x f (suc m) p> f> h = omega arith
 
 -- ---- one stretch in time
 
@@ -137,6 +143,21 @@ rate-tested x own f m t e h = cc
 pub stretch-tested : (x : Client) (own : ℕ → ℕ) (f m s j w : ℕ) (t : Bool) → t ≡ covers x f m j w → m ≡ slotsOf own f
     → w ≡ within own s j → inTime x own f s j ≡ t
 stretch-tested x own f m s j w t e h k = cc
+
+-- ---- an accepted plan
+
+pub accepted-owns : (plan : Plan) → Checked plan → Accepted plan → (i : ℕ) → i < plan .n
+    → 0 < slotsOf (ownOf plan (i + 1)) (plan .f)
+accepted-owns plan ok accepted i l =
+    let bounds = ok .bounds in
+    rate-owns (clientOf plan i) (plan .f) _ (bounds .required i l .p-low) (bounds .f-low)
+    (accepted .each i (omega arith) l .rate)
+
+pub accepted-guaranteed : (plan : Plan) → 0 < plan .f → Accepted plan → (i : ℕ) → i < plan .n → (s j : ℕ)
+    → Guaranteed (clientOf plan i .p) (clientOf plan i .q) (clientOf plan i .a) (clientOf plan i .b) j
+    (within (ownOf plan (i + 1)) s j)
+accepted-guaranteed plan f> accepted i l =
+    ok-guaranteed (clientOf plan i) (ownOf plan (i + 1)) (plan .f) f> (accepted .each i (omega arith) l)
 
 -- ---- one client after the other
 

@@ -2,13 +2,12 @@
 -- is within the required one; the verdicts agree with the figures and with one another; the search gives an accepted
 -- table with the fewest owned slots, and says there is none exactly when none exists.
 -- Assumes nothing.
-use mathlib.Core.Path.{_≡_, refl, sym, ap, _∙_}
+use mathlib.Core.Path.{_≡_, refl, sym, _∙_}
 use mathlib.Core.Bool.{true, false}
 use mathlib.Core.List.{List}
 use mathlib.Core.Logic.{_↔_}
 use Prim.Native.Nat.{ℕ, _+_, _-_, _*_, _≤_, _<_}
 use native.Mathlib.Decide.{decLe}
-use native.Mathlib.Nat.{mul-pos, zero-mul}
 use native.Mathlib.Omega.{arith}
 use lib.Dec.{leb}
 use lib.ListN.{take}
@@ -16,10 +15,7 @@ use lib.Seq.{getD-take}
 use borrow.Author.Tests.{le-leb, lt-leb}
 use Rattle.frame.specs.Frame.{slotsOf, IsScaled}
 use Rattle.frame.specs.Largest.{scaledOf}
-use Rattle.frame.specs.Queue.{Rule, Lawful}
-use Rattle.frame.specs.Service.{Satisfies}
 use Rattle.frame.proofs.Scaled.{scaled-is}
-use Rattle.frame.proofs.Latency.{in-time-exactly}
 use Rattle.records.proofs.Checks.{false-true, refused-fine}
 use Rattle.plan.specs.declared.Client.{Client}
 use Rattle.plan.specs.declared.Plan.{Plan}
@@ -40,7 +36,8 @@ use Rattle.judge.specs.declared.Verdict.the-variants.{Ok, Rate, Late}
 use Rattle.judge.specs.declared.Verdicts.the-variants as verdicts
 use Rattle.judge.specs.Rules.{enough, hasRate, IsLate, IsVerdict}
 use Rattle.judge.specs.Judge.{ClientOk, Accepted, JudgedAs, IsJudged, acceptance, IsVerdictOf}
-use Rattle.judge.proofs.Laws.{rate-true, rate-pass, late-start, late-length, in-time-by-scaled, scaled-by-in-time}
+use Rattle.judge.proofs.Laws.{rate-true, rate-pass, rate-owns, late-start, late-length, in-time-by-scaled}
+use Rattle.judge.proofs.Laws.{scaled-by-in-time}
 use Rattle.judge.proofs.Once.{judgement-one, judged-once}
 use Rattle.explore.specs.Best.{Table, owned, LexLe, NoTable}
 use Rattle.search.specs.declared.Answer.{Answer}
@@ -49,6 +46,8 @@ use Rattle.search.specs.declared.Searched.{Searched}
 use Rattle.search.specs.Search.{idlePlan, searchCheck, withTable, AcceptedIn, SearchedAs, IsSearched}
 use Rattle.search.proofs.Questions.{Searchable, search-fine, search-pass}
 use Rattle.search.proofs.Same.{accepted-front}
+use Rattle.arbiter.specs.Run.{SatisfiesOf}
+use Rattle.arbiter.proofs.Latency.{in-time-runs}
 use Rattle.promises.specs.Verdict.{verdictBy}
 
 -- ---- accepted exactly when
@@ -83,38 +82,36 @@ accepted-exactly plan f> = (
   λ meets. record { each = λ i low l. meets-ok plan i f> (meets i l) },
 )
 
--- the required latency is one that satisfies Definition 1
-pub record MeetsDefinition (rule : Rule) (plan : Plan) (i : ℕ) : Type 0 where
+-- the required latency is one that satisfies Definition 1 on the arbiter's runs
+pub record MeetsDefinition (plan : Plan) (i : ℕ) : Type 0 where
   pub rate : clientOf plan i .p * plan .f ≤ slotsOf (ownOf plan (i + 1)) (plan .f) * clientOf plan i .q
-  pub time : Satisfies rule (ownOf plan (i + 1)) (plan .f) (slotsOf (ownOf plan (i + 1)) (plan .f))
-      (clientOf plan i .a) (clientOf plan i .b)
+  pub time : SatisfiesOf plan i (clientOf plan i .a) (clientOf plan i .b)
 
-meets-by-definition : (rule : Rule) → Lawful rule → (plan : Plan) → 0 < plan .f → plan .f ≤ 64 → (i : ℕ)
-    → Meets plan i ↔ MeetsDefinition rule plan i
-meets-by-definition rule law plan f> f≤ i =
+meets-by-definition : (plan : Plan) → Checked plan → (i : ℕ) → i < plan .n → Meets plan i ↔ MeetsDefinition plan i
+meets-by-definition plan ok i i< =
     let x = clientOf plan i in
-    let own = ownOf plan (i + 1) in
-    let frame = frame-of plan (i + 1) f> in (
+    let checked = plan-pass plan ok in
+    let frame = frame-of plan (i + 1) (ok .bounds .f-low) in (
       λ meets.
           let scaled = scaled-is frame in
-          let within = in-time-exactly rule frame law f≤ scaled (x .a) (x .b) in
-          record { rate = meets .rate; time = within .0 (meets .time _ scaled) },
+          record {
+            rate = meets .rate;
+            time = in-time-runs plan i i< checked frame scaled (x .a) (x .b) .0 (meets .time _ scaled);
+          },
       λ meets.
           record {
             rate = meets .rate;
-            time = λ L scaled. in-time-exactly rule frame law f≤ scaled (x .a) (x .b) .1 (meets .time);
+            time = λ L scaled. in-time-runs plan i i< checked frame scaled (x .a) (x .b) .1 (meets .time);
           },
     )
 
 -- so a plan is accepted exactly when every client has its rate and its required latency satisfies Definition 1
-pub accepted-by-definition : (rule : Rule) → Lawful rule → (plan : Plan) → Checked plan
-    → Accepted plan ↔ ((i : ℕ) → i < plan .n → MeetsDefinition rule plan i)
-accepted-by-definition rule law plan ok =
-    let f> = ok .bounds .f-low in
-    let f≤ = ok .bounds .f-high in
-    let by = meets-by-definition rule law plan f> f≤ in
-    let exactly = accepted-exactly plan f> in
-    (λ accepted i l. by i .0 (exactly .0 accepted i l), λ meets. exactly .1 (λ i l. by i .1 (meets i l)))
+pub accepted-by-definition : (plan : Plan) → Checked plan
+    → Accepted plan ↔ ((i : ℕ) → i < plan .n → MeetsDefinition plan i)
+accepted-by-definition plan ok =
+    let by = meets-by-definition plan ok in
+    let exactly = accepted-exactly plan (ok .bounds .f-low) in
+    (λ accepted i l. by i l .0 (exactly .0 accepted i l), λ meets. exactly .1 (λ i l. by i l .1 (meets i l)))
 
 -- and that is what `judge` says
 pub judge-accepts : (plan : Plan) (found : Judgement) → IsJudged plan (judged.Given found)
@@ -225,8 +222,7 @@ module _ (plan : Plan) (c : ℕ) where
           let asked = asked-fine plan c (is .0) in
           let bounds = asked .0 .bounds in
           let p> = bounds .required (c - 1) (omega (arith, asked .1, asked .2)) .p-low in
-          let zero = ap (λ (k : ℕ). k * x .q) none in
-          omega (arith, mul-pos p> (bounds .f-low), rate-true x (plan .f) _ h, zero, zero-mul (x .q))
+          omega (arith, none, rate-owns x (plan .f) _ p> (bounds .f-low) h)
 
       by : (v : Verdict) → IsVerdict x (ownOf plan c) (plan .f) v → v ≡ Rate
       by Ok h = absurd (lacks (h .rate))

@@ -1,7 +1,7 @@
 -- The bench examples are right: a test of each is computed, and says that the answer is one that the contract allows;
 -- and it allows no other.
 -- Assumes nothing.
-use mathlib.Core.Path.{_≡_, refl, sym, ap, fun-ext}
+use mathlib.Core.Path.{_≡_, refl, sym, ap, _∙_, fun-ext}
 use mathlib.Core.Bool.{Bool, true, false}
 use mathlib.Core.List.{List, [], _∷_}
 use Prim.Native.Nat.{ℕ, _+_, _%_, _≤_, _<_}
@@ -15,7 +15,7 @@ use Rattle.frame.specs.Largest.{largest, lack, lackFrom, scaledOf, waitOf}
 use Rattle.frame.proofs.Scaled.{scaled-is, wait-is}
 use Rattle.records.specs.Refusal as refusal
 use Rattle.records.specs.First.{pick, rangeCheck, firstOf}
-use Rattle.records.specs.Pieces.{firsts, padded}
+use Rattle.records.specs.Pieces.{firsts, onto, padded}
 use Rattle.records.specs.declared.Outcome.the-variants.{Fine}
 use Rattle.records.proofs.Checks.{both-true, range-pass, one-or-none, refused-fine}
 use Rattle.records.proofs.Lists.{get-padded}
@@ -45,11 +45,13 @@ use Rattle.search.specs.declared.Answer.{Answer}
 use Rattle.search.specs.declared.Answer.the-variants as answer
 use Rattle.search.specs.Search.{searchCheck, sizeCheck, AcceptedIn, SearchedAs}
 use Rattle.search.proofs.Questions.{search-fine}
+use Rattle.arbiter.specs.Step.{ruleOf, servedBy, lessOne, advanced, placeCheck, stepCheck, stepOf}
 use Rattle.promises.specs.Bench.{Schedule, among, tablePlan, searchPlan, little, Question, figure, waiting}
-use Rattle.promises.specs.Bench.{accepted, late, found, none, Right, AllRight, questions}
+use Rattle.promises.specs.Bench.{accepted, late, found, none, steps, Right, AllRight, questions}
 use Rattle.promises.proofs.Tests.{allBelow, fineTest, fine-tested, okTest, ok-tested, lateTest}
 use Rattle.promises.proofs.Tests.{late-tested, acceptTest, everyTable, lexTest, betterTest, noneTest}
-use Rattle.promises.proofs.Tests.{none-tested, bestTest, best-tested}
+use Rattle.promises.proofs.Tests.{none-tested, bestTest, best-tested, numbersTest, serviceTest, stepTest}
+use Rattle.promises.proofs.Tests.{step-tested}
 
 -- ---- a schedule as a plan
 
@@ -120,6 +122,7 @@ test (late t client s j) =
 test (found f n client table) =
     pick (fineTest (searchCheck (searchPlan f n client))) (bestTest (searchPlan f n client) table) false
 test (none f n client) = pick (fineTest (searchCheck (searchPlan f n client))) (noneTest (searchPlan f n client)) false
+test (steps plan arb xs goes) = stepTest (stepOf plan arb xs) goes
 
 -- ---- what it says
 
@@ -292,6 +295,7 @@ right (found f n client table) h =
 right (none f n client) h =
     let g = both-true (fineTest (searchCheck (searchPlan f n client))) (noneTest (searchPlan f n client)) h in
     none-right f n client (g .0) (g .1)
+right (steps plan arb xs goes) h = λ r is. is ∙ step-tested (stepOf plan arb xs) goes h
 
 -- ---- all of them
 
@@ -307,5 +311,5 @@ pub bench : AllRight questions
 unfolding questions test slotAt scaledOf lackFrom largest lack within waitOf okTest lateTest fineTest noneTest bestTest
     acceptTest everyTable allBelow betterTest lexTest owned enough covers ownIn searchPlan searchCheck sizeCheck
     tablePlan planCheck requirementsCheck ownersCheck clientStep ownerStep clientCheck ownerCheck rangeCheck firstOf
-    firsts padded
+    firsts onto padded stepTest serviceTest numbersTest stepOf stepCheck placeCheck advanced servedBy lessOne ruleOf
 bench = all-right questions refl

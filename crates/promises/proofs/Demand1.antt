@@ -1,6 +1,6 @@
--- Demand 1: every stream, plan and number handed in gets a defined reply. Each contract fixes result and lent bytes, so
--- two outcomes that it allows coincide; each refusal has its number; a refusal gives 0 for all else, a refused read a
--- plan of zeros, and leaves a lent output untouched.
+-- Demand 1: every stream, plan, arbiter record and number handed in gets a defined reply. Each contract fixes result
+-- and lent memory, so two outcomes that it allows coincide; each refusal has its number; a refusal gives 0 for all
+-- else, a refused read a plan of zeros, and leaves a lent output untouched and a lent record unchanged.
 -- Assumes nothing.
 use mathlib.Core.Path.{_≡_, refl, sym, ap, _∙_}
 use mathlib.Core.List.{List, [], _∷_}
@@ -53,6 +53,13 @@ use Rattle.search.specs.Search.{idlePlan, searchCheck, SearchedAs, IsSearched, 
 use Rattle.search.proofs.Questions.{Searchable, search-fine, search-pass, search-numbered}
 use Rattle.search.proofs.Once.{searched-once}
 use Rattle.search.proofs.Same.{searched-same}
+use Rattle.arbiter.specs.declared.Answer.{Answer as Answered}
+use Rattle.arbiter.specs.declared.Arbiter.{Arbiter}
+use Rattle.arbiter.specs.Step.{countOf, advanced, stepCheck, steppedBy, stepOf, stepNumber, clientIn}
+use Rattle.arbiter.proofs.Questions.{Steps, step-fine, step-pass, step-numbered}
+use Rattle.arbiter.proofs.Slots.{step-number as number-of}
+use Rattle.arbiter.proofs.Same.{same-step, answer-unread, count-unread}
+use Rattle.arbiter.proofs.Laws.{step-kept as past-kept, step-none as past-none}
 use Rattle.promises.specs.Trip.{Copied}
 use Rattle.stream.proofs.Same.{same-stream}
 use Rattle.stream.proofs.Numbers.{read-numbered, write-numbered}
@@ -63,6 +70,12 @@ use Rattle.stream.proofs.Offsets.{read-within}
 -- where the contract is an equation, `r ≡ x`: all of records' and plan's entries, `stream::read`, `reread`
 pub once : {A : Type 0} (x r r′ : A) → r ≡ x → r′ ≡ x → r ≡ r′
 once x r r′ h h′ = h ∙ sym h′
+
+-- where a record is lent, too: `arbiter::step_in_place`; `step` and `step_lent` have an equation
+pub step-once : (plan : Plan) (arb : Arbiter) (xs : List ℕ) (r r′ : Answered) (now now′ : Arbiter)
+    → (r ≡ stepOf plan arb xs .answer) × (now ≡ stepOf plan arb xs .next)
+    → (r′ ≡ stepOf plan arb xs .answer) × (now′ ≡ stepOf plan arb xs .next) → (r ≡ r′) × (now ≡ now′)
+step-once plan arb xs r r′ now now′ h h′ = (once _ r r′ (h .0) (h′ .0), once _ now now′ (h .1) (h′ .1))
 
 -- where there are lent bytes, too: `stream::write` and `rewritten`
 pub write-once : (plan : Plan) (out : List ℕ) (r r′ : Written) (now now′ : List ℕ) → Wrote plan out r now
@@ -136,6 +149,12 @@ search-number f n clients r is =
     search-number-by plan answer.None owners x = sym (ap numberOf (x .0))
     search-number-by plan (answer.Refused k) owners x = refused-number (searchCheck plan) k (x .0)
 
+pub step-number : (plan : Plan) (arb : Arbiter) (xs : List ℕ)
+    → (stepNumber (stepOf plan arb xs .answer .service) ≡ numberOf (stepCheck plan (arb .position) (length xs)))
+    × Numbered 18 (stepCheck plan (arb .position) (length xs))
+step-number plan arb xs =
+    (number-of plan arb xs, step-numbered refusal.arrivals (omega arith) plan (arb .position) (length xs))
+
 -- a plan passes exactly when it is in bounds
 pub check-exactly : (plan : Plan) → (planCheck plan ≡ Fine → Checked plan) × (Checked plan → planCheck plan ≡ Fine)
 check-exactly plan = (plan-fine plan, plan-pass plan)
@@ -161,6 +180,12 @@ pub search-exactly : (f n : ℕ) (clients : List Client)
     → (searchCheck (idlePlan f n clients) ≡ Fine → Searchable (idlePlan f n clients))
     × (Searchable (idlePlan f n clients) → searchCheck (idlePlan f n clients) ≡ Fine)
 search-exactly f n clients = (search-fine (idlePlan f n clients), search-pass (idlePlan f n clients))
+
+-- a step passes exactly when its plan is in bounds, its position is below f and its list has n entries
+pub step-exactly : (plan : Plan) (position arrived : ℕ)
+    → (stepCheck plan position arrived ≡ Fine → Steps plan position arrived)
+    × (Steps plan position arrived → stepCheck plan position arrived ≡ Fine)
+step-exactly plan position arrived = (step-fine plan position arrived, step-pass plan position arrived)
 
 -- and where it passes, its answer is given
 pub figure-given : (plan : Plan) (c : ℕ) (r : Figures) → Asked plan c → IsFigures plan c r
@@ -226,6 +251,29 @@ pub search-same : (f n : ℕ) (cs ds : List Client) (r : Searched)
     → ((i : ℕ) → i < n → getD cs i noClient ≡ getD ds i noClient)
     → IsSearched (idlePlan f n cs) r → IsSearched (idlePlan f n ds) r
 search-same f n cs ds r alike = searched-same f n cs ds alike (r .answer) (r .owners)
+
+pub step-same : (plan other : Plan) (arb : Arbiter) (xs : List ℕ) → Same plan other
+    → stepOf plan arb xs ≡ stepOf other arb xs
+step-same plan other arb xs s = same-step plan other s arb xs
+
+-- "Counts past n are not read": records with the same position and counts up to n get the same answer, and are left
+-- with the same counts up to n
+pub step-unread : (plan : Plan) (arb other : Arbiter) (xs : List ℕ) → arb .position ≡ other .position
+    → ((i : ℕ) → i < plan .n → countOf arb i ≡ countOf other i)
+    → (stepOf plan arb xs .answer ≡ stepOf plan other xs .answer)
+    × ((i : ℕ) → i < plan .n → countOf (stepOf plan arb xs .next) i ≡ countOf (stepOf plan other xs .next) i)
+step-unread plan arb other xs place counts =
+    (answer-unread plan arb other xs place counts, count-unread plan arb other xs place counts)
+
+-- "and are kept"
+pub step-kept : (plan : Plan) (arb : Arbiter) (xs : List ℕ) (i : ℕ) → plan .n ≤ i
+    → countOf (stepOf plan arb xs .next) i ≡ countOf arb i
+step-kept = past-kept
+
+-- "each client's turned-away count, 0 past n"
+pub step-none : (plan : Plan) (arb : Arbiter) (xs : List ℕ) (i : ℕ) → plan .n ≤ i
+    → getD (stepOf plan arb xs .answer .turned) i 0 ≡ 0
+step-none = past-none
 
 -- ---- what a refusal returns
 
@@ -303,6 +351,22 @@ search-refused f n clients r = by (r .answer)
     by answer.Found x h = absurd (h refl)
     by answer.None x h = absurd (h refl)
     by (answer.Refused k) x h = x .1
+
+-- "leaves .. an arbiter record unchanged"
+pub step-refused : (plan : Plan) (arb : Arbiter) (xs : List ℕ)
+    → (stepNumber (stepOf plan arb xs .answer .service) ≡ 0 → ⊥)
+    → (clientIn (stepOf plan arb xs .answer .service) ≡ 0)
+    × (stepOf plan arb xs .answer .turned ≡ replicate 8 0)
+    × (stepOf plan arb xs .next ≡ arb)
+unfolding stepOf advanced
+step-refused plan arb xs h = by (stepCheck plan (arb .position) (length xs)) h
+  where
+    by : (o : Outcome) → (stepNumber (steppedBy o (advanced plan arb xs) arb .answer .service) ≡ 0 → ⊥)
+        → (clientIn (steppedBy o (advanced plan arb xs) arb .answer .service) ≡ 0)
+        × (steppedBy o (advanced plan arb xs) arb .answer .turned ≡ replicate 8 0)
+        × (steppedBy o (advanced plan arb xs) arb .next ≡ arb)
+    by Fine h = absurd (h refl)
+    by (Refused k offset) h = (refl, refl, refl)
 
 kept-by : (o : Outcome) (stream out : List ℕ) → drop (length stream) (bytesBy o stream out) ≡ drop (length stream) out
 kept-by Fine stream out = drop-at stream (drop (length stream) out) (length stream) refl

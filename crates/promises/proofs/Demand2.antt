@@ -2,19 +2,15 @@
 -- streams read are written back byte for byte". The hypotheses that a list holds bytes (Bytes) and that a plan's
 -- numbers have two bytes (Held) are what the types say: the calls `rewritten` and `reread` of this crate show both, and
 -- so do the contracts of `stream::read` and `stream::write`. Figures: the latency L/m is the least one of Definition 1,
--- over the runs of one client's queue.
+-- over the arbiter's runs.
 -- Assumes nothing.
 use mathlib.Core.Path.{_≡_, refl, ap}
 use mathlib.Core.List.{List}
 use Prim.Native.Nat.{ℕ, _+_, _-_, _*_, _≤_, _<_}
 use native.Mathlib.Omega.{arith}
 use lib.ListN.{length}
-use Rattle.frame.specs.Frame.{Frame, IsScaled, Consecutive}
-use Rattle.frame.specs.Queue.{Rule, Lawful, pending, servedIn}
-use Rattle.frame.specs.Service.{IsLatency}
+use Rattle.frame.specs.Frame.{Consecutive}
 use Rattle.frame.proofs.Limits.{scaled-least, scaled-most, scaled-small, scaled-consecutive, wait-small}
-use Rattle.frame.proofs.Latency.{latency-is}
-use Rattle.frame.proofs.Service.{served-in-wait}
 use Rattle.records.specs.First.{numberOf}
 use Rattle.records.specs.declared.Outcome.{Outcome}
 use Rattle.records.specs.declared.Outcome.the-variants.{Fine}
@@ -23,7 +19,7 @@ use Rattle.records.proofs.Words.{Bytes}
 use Rattle.plan.specs.declared.Plan.{Plan}
 use Rattle.plan.specs.Plan.{ownOf, Same, used}
 use Rattle.plan.specs.Check.{planCheck}
-use Rattle.plan.proofs.Laws.{used-same, same-used, same-check}
+use Rattle.plan.proofs.Laws.{plan-pass, used-same, same-used, same-check}
 use Rattle.stream.specs.Kind.{rowsOf}
 use Rattle.stream.specs.Read.{planOf, planIf, readCheck, readOf}
 use Rattle.stream.specs.Trip.{Held}
@@ -35,11 +31,12 @@ use Rattle.stream.proofs.WrittenBack.{written-back as stream-written-back, plan
 use Rattle.figures.specs.declared.Figure.{Figure}
 use Rattle.figures.specs.declared.Figures.the-variants as figures
 use Rattle.figures.specs.declared.Wait.the-variants as wait
-use Rattle.figures.specs.Check.{waitCheck}
 use Rattle.figures.specs.Figures.{IsFigures, IsWaitFor}
 use Rattle.figures.proofs.Laws.{frame-of}
-use Rattle.figures.proofs.Questions.{Asked, figure-fine, wait-fine}
-use Rattle.figures.proofs.Answers.{given-fine, wait-given-fine}
+use Rattle.figures.proofs.Questions.{figure-fine, wait-fine}
+use Rattle.figures.proofs.Answers.{given-fine, given-frame, given-scaled, given-owns, wait-given-fine, given-waits}
+use Rattle.arbiter.specs.Run.{IsLatencyOf}
+use Rattle.arbiter.proofs.Latency.{latency-runs}
 use Rattle.promises.specs.Trip.{rereadOf}
 use Rattle.promises.proofs.Demand1.{read-number, check-number}
 
@@ -91,62 +88,44 @@ sized plan h =
 
 -- ---- figures
 
+-- "The latency given for a drive that owns a slot is exactly the least one that satisfies Definition 1 .. at its
+-- allocated rate": it is L/m, and the rate m/f, on the arbiter's own runs
+pub latency : (plan : Plan) (i : ℕ) (figure : Figure) → IsFigures plan (i + 1) (figures.Given figure)
+    → IsLatencyOf plan i (figure .scaled) (figure .slots)
+latency plan i figure is =
+    let fine = given-fine plan (i + 1) figure is in
+    let ok = figure-fine plan (i + 1) fine in
+    let right = is .figure fine in
+    let frame = frame-of plan (i + 1) (ok .checked .bounds .f-low) in
+    let i< : i < plan .n = omega (arith, ok .high) in
+    rw (right .slots)
+    (latency-runs plan i i< (plan-pass plan (ok .checked)) frame (right .scaled) (ok .owns))
+
 module _ (plan : Plan) (c : ℕ) (figure : Figure) (is : IsFigures plan c (figures.Given figure)) where
-  asked : Asked plan c
-  asked = figure-fine plan c (given-fine plan c figure is)
-
-  -- the client's frame and its L, with the figure's m
-  frame : Frame (ownOf plan c) (plan .f) (figure .slots)
-  frame = rw (is .figure (given-fine plan c figure is) .slots) (frame-of plan c (asked .checked .bounds .f-low))
-
-  scaled : IsScaled (ownOf plan c) (plan .f) (figure .slots) (figure .scaled)
-  scaled =
-      let right = is .figure (given-fine plan c figure is) in
-      rw (right .slots) (right .scaled)
-
-  owns : 0 < figure .slots
-  owns = omega (arith, frame .slots, asked .owns)
-
-  -- "The latency given for a drive that owns a slot is exactly the least one that satisfies Definition 1 .. at its
-  -- allocated rate": it is L/m, and the rate m/f
-  pub latency : (rule : Rule) → Lawful rule
-      → IsLatency rule (ownOf plan c) (plan .f) (figure .slots) (figure .scaled) (figure .slots)
-  latency rule law = latency-is rule frame law (asked .checked .bounds .f-high) owns scaled
+  f-high : plan .f ≤ 64
+  f-high = figure-fine plan c (given-fine plan c figure is) .checked .bounds .f-high
 
   -- "For m above 0, always f − m ≤ L ≤ m × (f − m)"
   pub limits : (plan .f - figure .slots ≤ figure .scaled)
       × (figure .scaled ≤ figure .slots * (plan .f - figure .slots))
       × (figure .scaled ≤ 1024)
-  limits = (
-    scaled-least frame scaled owns,
-    scaled-most frame scaled,
-    scaled-small frame scaled (asked .checked .bounds .f-high),
-  )
+  limits =
+      let frame = given-frame plan c figure is in
+      let scaled = given-scaled plan c figure is in
+      let owns = given-owns plan c figure is in
+      (scaled-least frame scaled owns, scaled-most frame scaled, scaled-small frame scaled f-high)
 
   -- "consecutive slots reach the upper end"
   pub consecutive : (s : ℕ) → Consecutive (ownOf plan c) s (figure .slots)
       → figure .scaled ≡ figure .slots * (plan .f - figure .slots)
-  consecutive s all = scaled-consecutive frame scaled s all
+  consecutive s all = scaled-consecutive (given-frame plan c figure is) (given-scaled plan c figure is) s all
 
 -- ---- waits
 
-module _ (plan : Plan) (c k slots : ℕ) (is : IsWaitFor plan c k (wait.Given slots)) where
-  passed : waitCheck plan c k ≡ Fine
-  passed = wait-given-fine plan c k slots is
-
-  -- a request that is k-th in its queue in slot d of a run is served within the wait for k, that slot counted first
-  pub served-in-time : (rule : Rule) (s v : ℕ) (xs : List ℕ) (d : ℕ) → k ≤ pending rule (ownOf plan c) s v xs d
-      → d + slots ≤ length xs → k ≤ servedIn rule (ownOf plan c) s v xs d slots
-  served-in-time rule s v xs d l fits =
-      let ok = wait-fine plan c k passed in
-      let right = is .wait passed in
-      let frame = frame-of plan c (ok .asked .checked .bounds .f-low) in
-      served-in-wait rule frame (right .scaled .bounded) s v xs d k slots (right .least) (ok .low) l fits
-
-  pub wait-limit : slots ≤ 16383
-  wait-limit =
-      let ok = wait-fine plan c k passed in
-      let right = is .wait passed in
-      let bounds = ok .asked .checked .bounds in
-      let most = scaled-most (frame-of plan c (bounds .f-low)) (right .scaled) in
-      wait-small (ok .asked .owns) (bounds .f-high) most (ok .high) (right .least)
+pub wait-limit : (plan : Plan) (c k slots : ℕ) → IsWaitFor plan c k (wait.Given slots) → slots ≤ 16383
+wait-limit plan c k slots is =
+    let ok = wait-fine plan c k (wait-given-fine plan c k slots is) in
+    let right = given-waits plan c k slots is in
+    let bounds = ok .asked .checked .bounds in
+    let most = scaled-most (frame-of plan c (bounds .f-low)) (right .scaled) in
+    wait-small (ok .asked .owns) (bounds .f-high) most (ok .high) (right .least)

@@ -1,26 +1,186 @@
--- Demand 3 for one client of an accepted plan, over the runs of its queue.
+-- Demand 3, and what document 01 says of runs of the arbiter: each client's service on the arbiter's own steps. Each
+-- statement is about a plan's run that is not refused (`Runs`), from any position and any pending counts, with any
+-- lists of n arrivals, and about client i + 1 of the plan. What is counted is read off the steps' answers.
 -- Assumes nothing.
-use mathlib.Core.List.{List}
-use Prim.Native.Nat.{ℕ, _+_, _<_}
+use mathlib.Core.Path.{_≡_, sym, ap, _∙_}
+use mathlib.Core.List.{List, []}
+use mathlib.Core.Logic.{⊎-elim, _↔_}
+use Prim.Native.Nat.{ℕ, _+_, _%_, _≤_, _<_}
+use native.Mathlib.Nat.{mod-lt}
 use native.Mathlib.Omega.{arith}
-use Rattle.frame.specs.Queue.{Rule, servedIn}
+use lib.ListN.{length, getD, take}
+use lib.Seq.{ext-getD}
+use Rattle.frame.specs.Frame.{within}
+use Rattle.frame.specs.Queue.{mostPending, served}
 use Rattle.frame.specs.Service.{Guaranteed, AlwaysPending}
+use Rattle.frame.proofs.Queue.{conserved, left-room, served-most, alone as queue-alone}
 use Rattle.frame.proofs.Service.{demand-three}
+use Rattle.frame.proofs.Within.{own-mod}
+use Rattle.records.specs.Refusal as refusal
+use Rattle.records.specs.First.{numberOf}
+use Rattle.records.proofs.Refusals.{numbered-fine}
 use Rattle.plan.specs.declared.Plan.{Plan}
-use Rattle.plan.specs.Plan.{clientOf, ownOf}
-use Rattle.plan.proofs.Laws.{own-most}
+use Rattle.plan.specs.Plan.{clientOf, ownerOf, ownOf}
+use Rattle.plan.proofs.Laws.{plan-fine, plan-pass, own-most}
+use Rattle.figures.specs.declared.Wait.the-variants as wait
+use Rattle.figures.specs.Figures.{IsWaitFor}
+use Rattle.figures.proofs.Laws.{frame-of}
+use Rattle.figures.proofs.Questions.{wait-fine}
+use Rattle.figures.proofs.Answers.{wait-given-fine, given-waits}
 use Rattle.judge.specs.Judge.{Accepted}
-use Rattle.judge.proofs.Laws.{ok-guaranteed}
+use Rattle.judge.proofs.Laws.{accepted-guaranteed}
+use Rattle.arbiter.specs.declared.Arbiter.{Arbiter}
+use Rattle.arbiter.specs.Step.{ruleOf, countOf, stepOf, stepNumber}
+use Rattle.arbiter.specs.Step.{clientIn}
+use Rattle.arbiter.specs.Run.{recordAfter, Runs, servedOf, turnedOf, takenOf, pendingOf, servedInOf}
+use Rattle.arbiter.specs.Run.{AlwaysPendingOf, Agree}
+use Rattle.arbiter.proofs.Runs.{mine, mine-at, mine-length, mine-first, runs-first, served-run, turned-run, taken-run}
+use Rattle.arbiter.proofs.Runs.{left-run, pending-run, served-in-run}
+use Rattle.arbiter.proofs.Runs.{steps-at}
+use Rattle.arbiter.proofs.Questions.{Steps, step-pass, step-fine, step-numbered}
+use Rattle.arbiter.proofs.Slots.{step-number, step-named}
+use Rattle.arbiter.proofs.Laws.{rule-lawful, rule-same, run-in-wait}
 
--- "Take any run of consecutive slots in each of which a drive has a request pending. Subtract its required latency from
--- the run's length and multiply by its required rate: it is served at least that often in the run"
-pub accepted-served : (plan : Plan) → 0 < plan .f → Accepted plan → (rule : Rule) (i : ℕ) → i < plan .n
-    → (s v : ℕ) (xs : List ℕ) (d j : ℕ) → AlwaysPending rule (ownOf plan (i + 1)) s v xs d j
-    → Guaranteed (clientOf plan i .p) (clientOf plan i .q) (clientOf plan i .a) (clientOf plan i .b) j
-    (servedIn rule (ownOf plan (i + 1)) s v xs d j)
-accepted-served plan f> accepted rule i l s v xs d j pending =
-    let x = clientOf plan i in
-    let own = ownOf plan (i + 1) in
-    let most = own-most (plan .owners) (plan .f) (i + 1) in
-    let slots = ok-guaranteed x own (plan .f) f> (accepted .each i (omega arith) l) in
-    demand-three rule own most (x .p) (x .q) (x .a) (x .b) slots s v xs d j pending
+module _ (plan : Plan) (arb : Arbiter) (xss : List (List ℕ)) (runs : Runs plan arb xss) (i : ℕ) (i< : i < plan .n) where
+  -- ---- demand 3
+
+  one-pending : (d j : ℕ) → AlwaysPendingOf plan i arb xss d j
+      → AlwaysPending (ruleOf plan i) (ownOf plan (i + 1)) (arb .position) (countOf arb i) (mine i xss) d j
+  one-pending d j always =
+      record {
+        fits = omega (arith, always .fits, mine-length i xss);
+        each = λ e l. rw (← pending-run plan i i< arb xss runs (d + e)) (always .each e l);
+      }
+
+  -- "Take any run of consecutive slots in each of which a drive has a request pending. Subtract its required latency
+  -- from the run's length and multiply by its required rate: it is served at least that often in the run"
+  pub served-enough : Accepted plan → (d j : ℕ) → AlwaysPendingOf plan i arb xss d j
+      → Guaranteed (clientOf plan i .p) (clientOf plan i .q) (clientOf plan i .a) (clientOf plan i .b) j
+      (servedInOf plan i arb xss d j)
+  served-enough accepted d j always =
+      let slots = accepted-guaranteed plan (plan-fine plan (runs .checked) .bounds .f-low) accepted i i< in
+      let most = own-most (plan .owners) (plan .f) (i + 1) in
+      rw (served-in-run plan i i< arb xss runs d j (always .fits))
+      (demand-three (ruleOf plan i) (ownOf plan (i + 1)) most _ _ _ _ slots (arb .position) (countOf arb i) (mine i xss)
+      d j (one-pending d j always))
+
+  -- "It is served at most once in a slot it owns, and never in another": in any j slots of a run, at most as often as
+  -- it owns one of them; a single slot is j 1
+  pub served-owned : (d j : ℕ) → d + j ≤ length xss
+      → servedInOf plan i arb xss d j ≤ within (ownOf plan (i + 1)) (arb .position + d) j
+  served-owned d j fits =
+      rw (served-in-run plan i i< arb xss runs d j fits)
+      (served-most (ruleOf plan i) (ownOf plan (i + 1)) (arb .position) (countOf arb i) (mine i xss) d j
+      (omega (arith, fits, mine-length i xss)))
+
+  -- ---- document 01, "Over any run of steps on one unchanged plan, none refused"
+
+  -- "pending at the end plus served equals pending at the start plus taken, client by client"
+  pub conservation : countOf (recordAfter plan arb xss) i + servedOf plan i arb xss
+      ≡ countOf arb i + takenOf plan i arb xss
+  conservation =
+      rw (left-run plan i i< arb xss runs, served-run plan i i< arb xss runs, taken-run plan i i< arb xss runs)
+      (conserved (ruleOf plan i) (ownOf plan (i + 1)) (arb .position) (countOf arb i) (mine i xss))
+
+  -- "a request that is k-th in its queue after arrivals is served within the wait for k, that slot counted first"
+  pub served-in-time : (k slots : ℕ) → IsWaitFor plan (i + 1) k (wait.Given slots)
+      → (d : ℕ) → k ≤ pendingOf plan i arb xss d → d + slots ≤ length xss → k ≤ servedInOf plan i arb xss d slots
+  served-in-time k slots is d l fits =
+      let ok = wait-fine plan (i + 1) k (wait-given-fine plan (i + 1) k slots is) in
+      let right = given-waits plan (i + 1) k slots is in
+      let frame = frame-of plan (i + 1) (ok .asked .checked .bounds .f-low) in
+      run-in-wait plan i i< arb xss runs frame (right .scaled .bounded) d k slots (right .least) (ok .low) l fits
+
+  -- "a pending count of 0 to 255"
+  pub count-room : countOf arb i ≤ mostPending → countOf (recordAfter plan arb xss) i ≤ mostPending
+  count-room l =
+      let law = rule-lawful plan i in
+      rw (left-run plan i i< arb xss runs)
+      (left-room (ruleOf plan i) (ownOf plan (i + 1)) law (arb .position) (countOf arb i) (mine i xss) l)
+
+-- ---- "What other drives request changes none of its service"
+
+module _ (i : ℕ) (plan other : Plan) (arb arb′ : Arbiter) (xss yss : List (List ℕ))
+    (agree : Agree i plan other arb arb′ xss yss) where
+  mine-same : mine i xss ≡ mine i yss
+  mine-same =
+      ext-getD 0 (mine i xss) (mine i yss) (mine-length i xss ∙ agree .long ∙ sym (mine-length i yss))
+      (λ d l. mine-at i d xss ∙ agree .arrivals d ∙ sym (mine-at i d yss))
+
+  own-same : 0 < plan .f → (s : ℕ) → ownOf plan (i + 1) s ≡ ownOf other (i + 1) s
+  own-same f> s =
+      let frame = frame-of plan (i + 1) f> in
+      let frame′ = frame-of other (i + 1) (omega (arith, f>, agree .frame)) in
+      sym (own-mod frame s) ∙ agree .slots (s % plan .f) (mod-lt s f>)
+      ∙ ap (λ (f : ℕ). ownOf other (i + 1) (s % f)) (agree .frame) ∙ own-mod frame′ s
+
+  -- "two runs that agree on f, n, position, one client's slots, its pending count and its arrivals give that client the
+  -- same service, pending and turned-away counts", after each number d of slots
+  pub alone : i < plan .n → Runs plan arb xss → Runs other arb′ yss → (d : ℕ)
+      → (servedOf plan i arb (take d xss) ≡ servedOf other i arb′ (take d yss))
+      × (countOf (recordAfter plan arb (take d xss)) i ≡ countOf (recordAfter other arb′ (take d yss)) i)
+      × (turnedOf plan i arb (take d xss) ≡ turnedOf other i arb′ (take d yss))
+  alone i< runs runs′ d =
+      let first = runs-first plan arb xss d runs in
+      let first′ = runs-first other arb′ yss d runs′ in
+      let i<′ : i < other .n = omega (arith, i<, agree .count) in
+      let xs : mine i (take d xss) ≡ mine i (take d yss) =
+      mine-first i d xss ∙ ap (take d) mine-same ∙ sym (mine-first i d yss) in
+      let same = own-same (plan-fine plan (runs .checked) .bounds .f-low) in
+      rw (
+        served-run plan i i< arb (take d xss) first,
+        served-run other i i<′ arb′ (take d yss) first′,
+        left-run plan i i< arb (take d xss) first,
+        left-run other i i<′ arb′ (take d yss) first′,
+        turned-run plan i i< arb (take d xss) first,
+        turned-run other i i<′ arb′ (take d yss) first′,
+        rule-same plan other i,
+        xs,
+        agree .position,
+        agree .pending,
+      )
+      (queue-alone (ruleOf other i) (ownOf plan (i + 1)) (ownOf other (i + 1)) same (arb′ .position) (countOf arb′ i)
+      (mine i (take d yss)))
+
+-- ---- each step
+
+-- "never in another": a step names the owner of its slot, or nobody
+pub served-its-owner : (plan : Plan) (arb : Arbiter) (xs : List ℕ) (c : ℕ) → 0 < c
+    → clientIn (stepOf plan arb xs .answer .service) ≡ c → ownerOf plan (arb .position) ≡ c
+served-its-owner plan arb xs c c> e =
+    ⊎-elim
+    (λ (h : clientIn (stepOf plan arb xs .answer .service) ≡ 0). absurd (omega arith))
+    (λ (h : clientIn (stepOf plan arb xs .answer .service) ≡ ownerOf plan (arb .position)). sym h ∙ e)
+    (step-named plan arb xs)
+
+-- "none refused": no step of a run is refused exactly when its plan is in bounds, its position below f, and each of its
+-- lists has n entries
+pub refused-nowhere : (plan : Plan) (arb : Arbiter) (xss : List (List ℕ)) → 0 < length xss
+    → Runs plan arb xss ↔ ((d : ℕ) → d < length xss
+    → stepNumber (stepOf plan (recordAfter plan arb (take d xss)) (getD xss d []) .answer .service) ≡ 0)
+unfolding recordAfter
+refused-nowhere plan arb xss some = (
+  λ runs d l.
+      let ok = steps-at plan arb xss d runs l in
+      let at = recordAfter plan arb (take d xss) in
+      step-number plan at (getD xss d [])
+      ∙ ap numberOf (step-pass plan (at .position) (length (getD xss d [])) ok),
+  λ none.
+      let steps = passed none in
+      let first = steps 0 some in
+      record {
+        checked = plan-pass plan (first .checked);
+        position = first .below;
+        lists = λ d l. steps d l .many;
+      },
+)
+  where
+    passed : ((d : ℕ) → d < length xss
+        → stepNumber (stepOf plan (recordAfter plan arb (take d xss)) (getD xss d []) .answer .service) ≡ 0)
+        → (d : ℕ) → d < length xss
+        → Steps plan (recordAfter plan arb (take d xss) .position) (length (getD xss d []))
+    passed none d l =
+        let at = recordAfter plan arb (take d xss) in
+        let numbered = step-numbered refusal.arrivals (omega arith) plan (at .position) (length (getD xss d [])) in
+        let number = sym (step-number plan at (getD xss d [])) ∙ none d l in
+        step-fine plan (at .position) (length (getD xss d [])) (numbered-fine refusal.arrivals _ numbered number)

@@ -1,7 +1,7 @@
--- Tests that compute: whether a client is ok, whether a table is accepted, and whether a table is the best of all. Each
+-- Tests that compute: whether a client is ok, a table accepted, or the best of all, and whether two steps are one. Each
 -- says what its definition says, so that the examples of judging and searching are settled by working them out.
 -- Assumes nothing.
-use mathlib.Core.Path.{_≡_, refl, sym, _∙_}
+use mathlib.Core.Path.{_≡_, refl, sym, ap, _∙_}
 use mathlib.Core.Bool.{Bool, true, false}
 use mathlib.Core.List.{List, [], _∷_}
 use mathlib.Core.Logic.{inl, inr, ⊎-elim}
@@ -25,6 +25,9 @@ use Rattle.judge.specs.Judge.{Accepted}
 use Rattle.judge.proofs.Laws.{lengths-suffice, starts-suffice}
 use Rattle.explore.specs.Best.{Table, owned, LexLe, IsBest, NoTable}
 use Rattle.search.specs.Search.{withTable, AcceptedIn}
+use Rattle.arbiter.specs.declared.Service.{Service}
+use Rattle.arbiter.specs.declared.Service.the-variants as service
+use Rattle.arbiter.specs.declared.Stepped.{Stepped}
 
 -- ---- tests
 
@@ -225,3 +228,57 @@ module _ (plan : Plan) where
           let accepted = test-accept (withTable plan u) good in
           let here = every-table (plan .f) (plan .n) _ every u table in
           better-tested t u (better (acceptTest (withTable plan u)) (betterTest t u) accepted here)
+
+-- ---- steps
+
+unfoldable pub numbersTest : List ℕ → List ℕ → Bool
+numbersTest [] [] = true
+numbersTest [] (y ∷ ys) = false
+numbersTest (x ∷ xs) [] = false
+numbersTest (x ∷ xs) (y ∷ ys) = pick (eqb x y) (numbersTest xs ys) false
+
+numbers-tested : (xs ys : List ℕ) → numbersTest xs ys ≡ true → xs ≡ ys
+unfolding numbersTest
+numbers-tested [] [] h = refl
+numbers-tested [] (y ∷ ys) h = false-true h
+numbers-tested (x ∷ xs) [] h = false-true h
+numbers-tested (x ∷ xs) (y ∷ ys) h =
+    let b = both-true (eqb x y) (numbersTest xs ys) h in
+    rw (eqb-true x y (b .0), numbers-tested xs ys (b .1))
+
+unfoldable pub serviceTest : Service → Service → Bool
+serviceTest (service.Given a) (service.Given b) = eqb a b
+serviceTest (service.Given a) (service.Refused b) = false
+serviceTest (service.Refused a) (service.Given b) = false
+serviceTest (service.Refused a) (service.Refused b) = eqb a b
+
+service-tested : (a b : Service) → serviceTest a b ≡ true → a ≡ b
+unfolding serviceTest
+service-tested (service.Given a) (service.Given b) h = ap service.Given (eqb-true a b h)
+service-tested (service.Given a) (service.Refused b) h = false-true h
+service-tested (service.Refused a) (service.Given b) h = false-true h
+service-tested (service.Refused a) (service.Refused b) h = ap service.Refused (eqb-true a b h)
+
+-- r and s say and leave the same
+unfoldable pub stepTest : Stepped → Stepped → Bool
+stepTest r s =
+    pick
+    (pick (serviceTest (r .answer .service) (s .answer .service))
+    (numbersTest (r .answer .turned) (s .answer .turned)) false)
+    (pick (eqb (r .next .position) (s .next .position)) (numbersTest (r .next .pending) (s .next .pending)) false)
+    false
+
+stepped-alike : (a b : Service) (t u : List ℕ) (x y : ℕ) (p q : List ℕ) → a ≡ b → t ≡ u → x ≡ y → p ≡ q
+    → _≡_ {A = Stepped}
+    (record { answer = record { service = a; turned = t }; next = record { position = x; pending = p } })
+    (record { answer = record { service = b; turned = u }; next = record { position = y; pending = q } })
+stepped-alike a b t u x y p q e f g h = rw (e, f, g, h)
+
+pub step-tested : (r s : Stepped) → stepTest r s ≡ true → r ≡ s
+unfolding stepTest
+step-tested r s h =
+    let b = both-true _ _ h in
+    let said = both-true _ _ (b .0) in
+    let left = both-true _ _ (b .1) in
+    stepped-alike _ _ _ _ _ _ _ _ (service-tested _ _ (said .0)) (numbers-tested _ _ (said .1))
+    (eqb-true _ _ (left .0)) (numbers-tested _ _ (left .1))

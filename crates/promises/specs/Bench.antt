@@ -1,11 +1,12 @@
--- The bench examples of document 01 that are marked P, 11 and 12 with them, and two more schedules: a question, and the
--- only answer that the contract allows. `bench` in proofs/Bench.antt proves them all.
+-- The bench examples of document 01 that are marked P, 11 to 13 with them, two more schedules and two more steps: a
+-- question, and the only answer that the contract allows. `bench` in proofs/Bench.antt proves them all.
 use mathlib.Core.Path.{_≡_}
 use mathlib.Core.Bool.{Bool, true, false}
 use mathlib.Core.List.{List, [], _∷_}
 use Prim.Native.Nat.{ℕ}
 use lib.Dec.{eqb}
-use lib.ListN.{take}
+use lib.ListN.{getD, take}
+use Rattle.records.specs.Refusal as refusal
 use Rattle.records.specs.First.{pick}
 use Rattle.records.specs.Pieces.{padded}
 use Rattle.plan.specs.declared.Client.{Client}
@@ -21,6 +22,10 @@ use Rattle.judge.specs.Judge.{acceptance, IsJudged}
 use Rattle.search.specs.declared.Answer.the-variants as answer
 use Rattle.search.specs.declared.Searched.{Searched}
 use Rattle.search.specs.Search.{idlePlan, IsSearched}
+use Rattle.arbiter.specs.declared.Arbiter.{Arbiter}
+use Rattle.arbiter.specs.declared.Service.the-variants.{Given}
+use Rattle.arbiter.specs.declared.Stepped.{Stepped}
+use Rattle.arbiter.specs.Step.{refusedStep, stepOf}
 
 -- one client's schedule: a frame of f slots in which it owns those of the list
 pub record Schedule : Type 0 where
@@ -68,6 +73,8 @@ pub data Question : Type 0 where
   found : (f n : ℕ) → Client → List ℕ → Question
   -- or none
   none : (f n : ℕ) → Client → Question
+  -- a step of the arbiter from this record, with these arrivals: what it gives
+  steps : Plan → Arbiter → List ℕ → Stepped → Question
 
 -- every answer that the contract allows is this one, and no refusal
 abbrev pub Right : Question → Type 0
@@ -83,6 +90,7 @@ Right (late t client s j) =
 Right (found f n client table) =
     (r : Searched) → IsSearched (searchPlan f n client) r → (r .answer ≡ answer.Found) × (take f (r .owners) ≡ table)
 Right (none f n client) = (r : Searched) → IsSearched (searchPlan f n client) r → r .answer ≡ answer.None
+Right (steps plan arb xs goes) = (r : Stepped) → r ≡ stepOf plan arb xs → r ≡ goes
 
 -- all of a list are right
 abbrev pub AllRight : List Question → Type 0
@@ -116,8 +124,32 @@ round = record { f = 6; slots = 1 ∷ 2 ∷ [] }
 abbrev pub figure3 : Schedule
 figure3 = record { f = 10; slots = 3 ∷ 6 ∷ 7 ∷ 8 ∷ 9 ∷ [] }
 
+-- document 01, Programs, "the report's plan": f 8, n 2; "rate 1/2, latency 2/1 for client 1; rate 1/4, latency 3/1 for
+-- client 2; owners 1 1 1 2 0 1 0 2"
+abbrev pub reportPlan : Plan
+reportPlan =
+    record {
+      f = 8;
+      n = 2;
+      clients = padded (λ i. pick (eqb i 0) (requiring 1 2 2 1) (requiring 1 4 3 1)) 2 8 noClient;
+      owners = padded (λ x. getD (1 ∷ 1 ∷ 1 ∷ 2 ∷ 0 ∷ 1 ∷ 0 ∷ 2 ∷ []) x 0) 8 64 0;
+    }
+
+-- these counts of clients 1 and 2, and 0 past them
+abbrev pub counts : ℕ → ℕ → List ℕ
+counts a b = padded (λ i. pick (eqb i 0) a b) 2 8 0
+
+-- the record at this position, with a and b pending
+abbrev pub at : ℕ → ℕ → ℕ → Arbiter
+at position a b = record { position = position; pending = counts a b }
+
+-- a step that serves this client, or 0, with so many turned away, and leaves this record
+abbrev pub serving : ℕ → List ℕ → Arbiter → Stepped
+serving client turned next = record { answer = record { service = Given client; turned = turned }; next = next }
+
 -- P1 to P6, the schedule of the second slip, and the paper's; P7 and P8, late by the stretch that begins in slot
--- 3 and has one slot in five; P9 and P10, 11 and 12
+-- 3 and has one slot in five; P9 and P10, 11 to 13. Two more steps: slot 3 is client 2's, who has nothing pending, and
+-- passes unused; from position 8 a step is refused
 unfoldable pub questions : List Question
 questions =
     figure p1 2 8
@@ -137,4 +169,7 @@ questions =
     ∷ none 3 2 (requiring 1 3 3 2)
     ∷ none 3 2 (requiring 1 2 2 1)
     ∷ found 4 1 (requiring 1 2 1 1) (0 ∷ 1 ∷ 0 ∷ 1 ∷ [])
+    ∷ steps reportPlan (at 0 255 0) (1 ∷ 0 ∷ []) (serving 1 (counts 1 0) (at 1 254 0))
+    ∷ steps reportPlan (at 3 255 0) (1 ∷ 0 ∷ []) (serving 0 (counts 1 0) (at 4 255 0))
+    ∷ steps reportPlan (at 8 255 0) (1 ∷ 0 ∷ []) (refusedStep refusal.position (at 8 255 0))
     ∷ []

@@ -7,9 +7,9 @@ use Prim.Native.Nat.{ℕ, zero, suc, _+_, _-_, _*_, _≤_, _<_}
 use native.Mathlib.Nat.{mul-suc, mul-zero}
 use native.Mathlib.Numerals.{add-one}
 use native.Mathlib.Omega.{arith}
-use lib.ListN.{length, getD, set, replicate, length-append}
-use lib.Seq.{set-at, append-snoc, getD-at}
-use Rattle.records.specs.Pieces.{many, firsts, padded}
+use lib.ListN.{length, getD, set, take, drop, replicate, length-append, length-replicate}
+use lib.Seq.{set-at, take-at, drop-at, append-snoc, getD-at, drop-cons, getD-append-add, getD-drop}
+use Rattle.records.specs.Pieces.{many, firsts, onto, padded}
 use Rattle.records.proofs.Checks.{last-or-below}
 
 -- ---- pieces
@@ -69,26 +69,83 @@ get-firsts {A} f d r (suc n) i l =
 
 -- ---- an array that is filled from the front
 
+pub get-onto : {A : Type 0} (f : ℕ → A) (n : ℕ) (l : List A) (d : A) (i : ℕ) → i < n → getD (onto f n l) i d ≡ f i
+unfolding onto
+get-onto f n l d i h = get-firsts f d (drop n l) n i h
+
+-- the other places are kept
+pub onto-past : {A : Type 0} (f : ℕ → A) (n : ℕ) (l : List A) (d : A) (i : ℕ) → n ≤ i
+    → getD (onto f n l) i d ≡ getD l i d
+unfolding onto
+onto-past f n l d i h =
+    let e : i ≡ n + (i - n) = omega arith in
+    rw e
+    (rw (length-firsts f n) at (getD-append-add (firsts f n) (drop n l) (i - n) d) ∙ getD-drop n l (i - n) d)
+
+pub within-onto : {A : Type 0} (f : ℕ → A) (n : ℕ) (l : List A) → n ≤ length (onto f n l)
+unfolding onto
+within-onto f n l = omega (arith, length-append (firsts f n) (drop n l), length-firsts f n)
+
+pub onto-same : {A : Type 0} (f g : ℕ → A) (n : ℕ) (l : List A) → ((i : ℕ) → i < n → f i ≡ g i)
+    → onto f n l ≡ onto g n l
+unfolding onto
+onto-same f g n l e = rw (firsts-same f g n e)
+
+pub onto-none : {A : Type 0} (f : ℕ → A) (l : List A) → l ≡ onto f 0 l
+unfolding onto firsts
+onto-none f l = refl
+
+-- one turn of the loop that fills it
+pub onto-more : {A : Type 0} (f : ℕ → A) (n : ℕ) (l : List A) → n < length l
+    → set (onto f n l) n (f n) ≡ onto f (n + 1) l
+unfolding onto
+onto-more f n l h =
+    rw (drop-cons l n (f n) h, firsts-more, add-one)
+    (set-at (firsts f n) _ (drop (suc n) l) (f n) n (length-firsts f n) ∙ sym
+    (append-snoc (firsts f n) (f n) (drop (suc n) l)))
+
+-- ---- the same with one value in the other places
+
+pub get-replicate : {A : Type 0} (size : ℕ) (z : A) (i : ℕ) → getD (replicate size z) i z ≡ z
+get-replicate zero z i = refl
+get-replicate (suc size) z zero = refl
+get-replicate (suc size) z (suc i) = get-replicate size z i
+
 pub get-padded : {A : Type 0} (f : ℕ → A) (n size : ℕ) (z : A) (i : ℕ) → i < n → getD (padded f n size z) i z ≡ f i
 unfolding padded
-get-padded f n size z i l = get-firsts f z (replicate (size - n) z) n i l
+get-padded f n size z i l = get-onto f n (replicate size z) z i l
+
+-- and z past n
+pub padded-past : {A : Type 0} (f : ℕ → A) (n size : ℕ) (z : A) (i : ℕ) → n ≤ i → getD (padded f n size z) i z ≡ z
+unfolding padded
+padded-past f n size z i l = onto-past f n (replicate size z) z i l ∙ get-replicate size z i
 
 pub padded-same : {A : Type 0} (f g : ℕ → A) (n size : ℕ) (z : A) → ((i : ℕ) → i < n → f i ≡ g i)
     → padded f n size z ≡ padded g n size z
 unfolding padded
-padded-same f g n size z e = rw (firsts-same f g n e)
+padded-same f g n size z e = onto-same f g n (replicate size z) e
 
 pub padded-none : {A : Type 0} (f : ℕ → A) (size : ℕ) (z : A) → replicate size z ≡ padded f 0 size z
-unfolding padded firsts
-padded-none f size z = let e : size ≡ size - 0 = omega arith in ap (λ (n : ℕ). replicate n z) e
+unfolding padded
+padded-none f size z = onto-none f (replicate size z)
 
--- one turn of the loop that fills it
 pub padded-more : {A : Type 0} (f : ℕ → A) (n size : ℕ) (z : A) → n < size
     → set (padded f n size z) n (f n) ≡ padded f (n + 1) size z
 unfolding padded
-padded-more f n size z h =
-    let k : ℕ = size - (n + 1) in
-    let e : size - n ≡ suc k = omega (arith, add-one k) in
-    rw (e, firsts-more)
-    (set-at (firsts f n) z (replicate k z) (f n) n (length-firsts f n) ∙ sym
-    (append-snoc (firsts f n) (f n) (replicate k z)))
+padded-more f n size z h = onto-more f n (replicate size z) (omega (arith, length-replicate size z))
+
+pub take-padded : {A : Type 0} (f : ℕ → A) (n size : ℕ) (z : A) → take n (padded f n size z) ≡ firsts f n
+unfolding padded onto
+take-padded f n size z = take-at (firsts f n) _ n (length-firsts f n)
+
+drop-replicate : {A : Type 0} (n size : ℕ) (z : A) → drop n (replicate size z) ≡ replicate (size - n) z
+drop-replicate zero size z = let e : size ≡ size - 0 = omega arith in ap (λ (k : ℕ). replicate k z) e
+drop-replicate (suc n) zero z = let e : 0 ≡ 0 - suc n = omega arith in ap (λ (k : ℕ). replicate k z) e
+drop-replicate (suc n) (suc size) z =
+    let e : size - n ≡ suc size - suc n = omega arith in
+    drop-replicate n size z ∙ ap (λ (k : ℕ). replicate k z) e
+
+pub drop-padded : {A : Type 0} (f : ℕ → A) (n size : ℕ) (z : A)
+    → drop n (padded f n size z) ≡ replicate (size - n) z
+unfolding padded onto
+drop-padded f n size z = drop-at (firsts f n) _ n (length-firsts f n) ∙ drop-replicate n size z

@@ -5,14 +5,14 @@
 use mathlib.Core.Path.{_≡_, refl, sym, ap, _∙_}
 use mathlib.Core.Bool.{Bool, true, false}
 use mathlib.Core.List.{List}
-use Prim.Native.Nat.{ℕ, _+_, _-_, _≤_, _<_}
+use Prim.Native.Nat.{ℕ, _+_, _≤_, _<_}
 use native.Mathlib.Decide.{decLt}
 use native.Mathlib.Omega.{arith}
 use lib.ListN.{length, getD, take, replicate, List·getD-eq-default, getD-replicate}
-use lib.Seq.{getD-take, take-at, drop-at}
+use lib.Seq.{getD-take}
 use Rattle.frame.proofs.Within.{within-most}
 use Rattle.records.specs.Pieces.{padded}
-use Rattle.records.proofs.Lists.{length-firsts, firsts-same}
+use Rattle.records.proofs.Lists.{firsts-same, take-padded, drop-padded}
 use Rattle.plan.specs.declared.Client.{Client}
 use Rattle.plan.specs.declared.Plan.{Plan}
 use Rattle.plan.specs.Plan.{ownerOf, ownOf}
@@ -120,15 +120,12 @@ module _ (plan : Plan) (g : ℕ) (trees : List ℕ) (room : plan .f ≤ length (
   -- what was found is returned with 0 past f
   pub mended : (found : Bool) (u : List ℕ) → found ≡ true → BestOf (Fits trees (plan .n)) g (plan .n) found (take g u)
       → Finds (Mends plan) (plan .f) (plan .n) true (padded (slotOf plan u) (plan .f) 64 0)
-  unfolding padded
   mended found u e best =
       let right : IsBest (Fits trees (plan .n)) g (plan .n) (take g u) = rw e at best in
-      let long = length-firsts (slotOf plan u) (plan .f) in
-      let zeros = replicate {A = ℕ} (64 - plan .f) 0 in
       let same : filled plan u ≡ filled plan (take g u) =
       rw g= (firsts-same (slotOf plan u) (slotOf plan (take (idleOf plan) u)) (plan .f) (filled-front plan u)) in (
-        rw (take-at (filled plan u) zeros (plan .f) long, same) (best-mends (take g u) right),
-        drop-at (filled plan u) zeros (plan .f) long,
+        rw (take-padded (slotOf plan u) (plan .f) 64 0, same) (best-mends (take g u) right),
+        drop-padded (slotOf plan u) (plan .f) 64 0,
       )
 
   pub not-mended : (found : Bool) (u : List ℕ) → found ≡ false

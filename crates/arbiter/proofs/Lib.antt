@@ -1,0 +1,7 @@
+pub mod Questions
+pub mod Slots
+pub mod Runs
+pub mod Laws
+pub mod Latency
+pub mod Same
+pub mod Values

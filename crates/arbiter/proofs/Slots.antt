@@ -1,0 +1,192 @@
+-- What one slot gives each client: the counts after arrivals, the client served, and the counts after service.
+-- Assumes nothing.
+use mathlib.Core.Path.{_≡_, refl, sym, _∙_}
+use mathlib.Core.Bool.{Bool, true, false}
+use mathlib.Core.List.{List}
+use mathlib.Core.Logic.{_≢_, _⊎_, inl, inr, ⊎-elim}
+use Prim.Native.Nat.{ℕ, zero, suc, _+_, _-_, _≤_, _<_}
+use native.Mathlib.Decide.{ℕ-discrete, decLt}
+use native.Mathlib.Omega.{arith}
+use lib.Dec.{ltb, eqb}
+use lib.ListN.{length, getD, set}
+use lib.Seq.{getD-set-same, getD-set-other}
+use borrow.Author.Tests.{ltb-true, lt-ltb, le-ltb, eq-eqb, ne-eqb}
+use Rattle.frame.specs.Frame.{nextOf}
+use Rattle.frame.specs.Queue.{serve}
+use Rattle.records.specs.First.{pick, numberOf}
+use Rattle.records.specs.declared.Outcome.{Outcome}
+use Rattle.records.specs.declared.Outcome.the-variants as outcome
+use Rattle.records.specs.Pieces.{padded}
+use Rattle.plan.specs.declared.Plan.{Plan}
+use Rattle.plan.specs.Plan.{ownerOf}
+use Rattle.arbiter.specs.declared.Arbiter.{Arbiter}
+use Rattle.arbiter.specs.declared.Service.the-variants.{Given}
+use Rattle.arbiter.specs.declared.Stepped.{Stepped}
+use Rattle.arbiter.specs.Step.{servedBy, lessOne, turnedAt, joined, advanced, stepCheck, refusedStep}
+use Rattle.arbiter.specs.Step.{steppedBy, stepOf, stepNumber, clientIn}
+use Rattle.arbiter.specs.Run.{serves}
+
+-- ---- the client served
+
+pub served-idle : (owner : ℕ) (counts : List ℕ) → owner < 1 → 0 ≡ servedBy owner counts
+unfolding servedBy
+served-idle zero counts l = refl
+served-idle (suc i) counts l = absurd (omega arith)
+
+served-some : (owner i : ℕ) (counts : List ℕ) → owner ≡ suc i
+    → servedBy owner counts ≡ pick (ltb 0 (getD counts i 0)) owner 0
+unfolding servedBy
+served-some owner i counts e = rw e
+
+pub served-owner : (owner : ℕ) (counts : List ℕ) → 1 ≤ owner → 0 < getD counts (owner - 1) 0
+    → owner ≡ servedBy owner counts
+served-owner owner counts l h =
+    rw (served-some owner (owner - 1) counts (omega arith), lt-ltb 0 (getD counts (owner - 1) 0) h)
+
+pub served-nobody : (owner : ℕ) (counts : List ℕ) → 1 ≤ owner → getD counts (owner - 1) 0 ≤ 0
+    → 0 ≡ servedBy owner counts
+served-nobody owner counts l h =
+    rw (served-some owner (owner - 1) counts (omega arith), le-ltb 0 (getD counts (owner - 1) 0) h)
+
+-- nobody but the slot's owner
+pub served-either : (owner : ℕ) (counts : List ℕ) → (servedBy owner counts ≡ 0) ⊎ (servedBy owner counts ≡ owner)
+unfolding servedBy
+served-either zero counts = inl refl
+served-either (suc i) counts = by (ltb 0 (getD counts i 0))
+  where
+    by : (b : Bool) → (pick b (suc i) 0 ≡ 0) ⊎ (pick b (suc i) 0 ≡ suc i)
+    by true = inr refl
+    by false = inl refl
+
+pub served-most : (owner : ℕ) (counts : List ℕ) → servedBy owner counts ≤ owner
+served-most owner counts =
+    ⊎-elim (λ (e : servedBy owner counts ≡ 0). omega arith) (λ (e : servedBy owner counts ≡ owner). omega arith)
+    (served-either owner counts)
+
+pub served-other : (owner c : ℕ) (counts : List ℕ) → 0 < c → owner ≢ c → servedBy owner counts ≢ c
+served-other owner c counts c> other e =
+    ⊎-elim (λ (h : servedBy owner counts ≡ 0). omega arith) (λ (h : servedBy owner counts ≡ owner). other (sym h ∙ e))
+    (served-either owner counts)
+
+-- nobody who has nothing pending
+pub served-pending : (owner i : ℕ) (counts : List ℕ) → servedBy owner counts ≡ suc i → 0 < getD counts i 0
+unfolding servedBy
+served-pending zero i counts e = absurd (omega arith)
+served-pending (suc k) i counts e = by (ltb 0 (getD counts k 0)) refl e
+  where
+    by : (b : Bool) → ltb 0 (getD counts k 0) ≡ b → pick b (suc k) 0 ≡ suc i → 0 < getD counts i 0
+    by true h e = let same : k ≡ i = omega arith in rw (← same) (ltb-true 0 (getD counts k 0) h)
+    by false h e = absurd (omega arith)
+
+-- ---- the counts after service
+
+pub less-none : (served : ℕ) (counts : List ℕ) → served < 1 → counts ≡ lessOne served counts
+unfolding lessOne
+less-none zero counts l = refl
+less-none (suc i) counts l = absurd (omega arith)
+
+less-at : (served i : ℕ) (counts : List ℕ) → served ≡ suc i → lessOne served counts ≡ set counts i (getD counts i 0 - 1)
+unfolding lessOne
+less-at served i counts e = rw e
+
+pub less-some : (served : ℕ) (counts : List ℕ) → 1 ≤ served
+    → set counts (served - 1) (getD counts (served - 1) 0 - 1) ≡ lessOne served counts
+less-some served counts l = sym (less-at served (served - 1) counts (omega arith))
+
+-- ---- what client i + 1 sees of both
+
+one-same : (c a : ℕ) → a ≡ c → serves c a ≡ 1
+one-same c a e = rw (eq-eqb a c e)
+
+one-other : (c a : ℕ) → a ≢ c → serves c a ≡ 0
+one-other c a h = rw (ne-eqb a c h)
+
+-- it is served where the slot is its own and it has a request pending
+pub serves-is : (owner i : ℕ) (counts : List ℕ)
+    → serves (i + 1) (servedBy owner counts) ≡ serve (pick (eqb owner (i + 1)) 1 0) (getD counts i 0)
+serves-is owner i counts = by (ℕ-discrete owner (i + 1)) (decLt 0 (getD counts i 0))
+  where
+    by : Dec (owner ≡ i + 1) → Dec (0 < getD counts i 0)
+        → serves (i + 1) (servedBy owner counts) ≡ serve (pick (eqb owner (i + 1)) 1 0) (getD counts i 0)
+    by (yes e) (yes h) =
+        let named : servedBy owner counts ≡ owner =
+        rw (served-some owner i counts (omega arith), lt-ltb 0 (getD counts i 0) h) in
+        rw (named, one-same (i + 1) owner e) (omega arith)
+    by (yes e) (no h) =
+        let named : servedBy owner counts ≡ 0 =
+        rw (served-some owner i counts (omega arith), le-ltb 0 (getD counts i 0) (omega arith)) in
+        rw (named, one-same (i + 1) owner e, one-other (i + 1) 0 (omega arith)) (omega arith)
+    by (no e) h =
+        let other = served-other owner (i + 1) counts (omega arith) e in
+        rw (one-other (i + 1) owner e, one-other (i + 1) (servedBy owner counts) other) (omega arith)
+
+pub less-other : (served i : ℕ) (counts : List ℕ) → served ≢ i + 1 → getD (lessOne served counts) i 0 ≡ getD counts i 0
+unfolding lessOne
+less-other zero i counts h = refl
+less-other (suc k) i counts h = getD-set-other counts k i (getD counts k 0 - 1) 0 (λ e. h (omega arith))
+
+-- its count is then one less
+pub less-is : (served i : ℕ) (counts : List ℕ) → i < length counts
+    → getD (lessOne served counts) i 0 ≡ getD counts i 0 - serves (i + 1) served
+less-is served i counts l = by (ℕ-discrete served (i + 1))
+  where
+    by : Dec (served ≡ i + 1) → getD (lessOne served counts) i 0 ≡ getD counts i 0 - serves (i + 1) served
+    by (yes e) =
+        rw (less-at served i counts (omega arith), one-same (i + 1) served e)
+        (getD-set-same counts i (getD counts i 0 - 1) 0 l)
+    by (no e) = rw (one-other (i + 1) served e) (less-other served i counts e ∙ omega arith)
+
+-- ---- the whole step
+
+-- its parts, one after the other
+pub advances : (plan : Plan) (arb : Arbiter) (xs counts turned left : List ℕ) (owner served next : ℕ)
+    → counts ≡ joined plan arb xs → turned ≡ padded (turnedAt plan arb xs) (plan .n) 8 0
+    → owner ≡ ownerOf plan (arb .position) → served ≡ servedBy owner counts → left ≡ lessOne served counts
+    → next ≡ nextOf (plan .f) (arb .position)
+    → record {
+      answer = record { service = Given served; turned = turned };
+      next = record { position = next; pending = left };
+    } ≡ advanced plan arb xs
+unfolding advanced
+advances plan arb xs counts turned left owner served next e t o s l p = rw (l, s, o, e, t, p)
+
+-- v, what its checks found, is a refusal
+pub step-refused : (plan : Plan) (arb : Arbiter) (xs : List ℕ) {v : Outcome} {number offset : ℕ}
+    → v ≡ stepCheck plan (arb .position) (length xs) → v ≡ outcome.Refused number offset
+    → refusedStep number arb ≡ stepOf plan arb xs
+unfolding stepOf
+step-refused plan arb xs {v} {number} {offset} e h =
+    let q : stepCheck plan (arb .position) (length xs) ≡ outcome.Refused number offset = sym e ∙ h in
+    rw q
+
+pub step-advances : (plan : Plan) (arb : Arbiter) (xs : List ℕ)
+    → stepCheck plan (arb .position) (length xs) ≡ outcome.Fine → stepOf plan arb xs ≡ advanced plan arb xs
+unfolding stepOf
+step-advances plan arb xs h = rw h
+
+number-by : (o : Outcome) (goes : Stepped) (arb : Arbiter) → stepNumber (goes .answer .service) ≡ 0
+    → stepNumber (steppedBy o goes arb .answer .service) ≡ numberOf o
+number-by outcome.Fine goes arb h = h
+number-by (outcome.Refused number offset) goes arb h = refl
+
+-- its number is the first refusal's
+pub step-number : (plan : Plan) (arb : Arbiter) (xs : List ℕ)
+    → stepNumber (stepOf plan arb xs .answer .service) ≡ numberOf (stepCheck plan (arb .position) (length xs))
+unfolding stepOf advanced
+step-number plan arb xs = number-by (stepCheck plan (arb .position) (length xs)) (advanced plan arb xs) arb refl
+
+named-by : (o : Outcome) (goes : Stepped) (arb : Arbiter) (owner : ℕ)
+    → (clientIn (goes .answer .service) ≡ 0) ⊎ (clientIn (goes .answer .service) ≡ owner)
+    → (clientIn (steppedBy o goes arb .answer .service) ≡ 0)
+    ⊎ (clientIn (steppedBy o goes arb .answer .service) ≡ owner)
+named-by outcome.Fine goes arb owner h = h
+named-by (outcome.Refused number offset) goes arb owner h = inl refl
+
+-- it names nobody but the slot's owner
+pub step-named : (plan : Plan) (arb : Arbiter) (xs : List ℕ)
+    → (clientIn (stepOf plan arb xs .answer .service) ≡ 0)
+    ⊎ (clientIn (stepOf plan arb xs .answer .service) ≡ ownerOf plan (arb .position))
+unfolding stepOf advanced
+step-named plan arb xs =
+    named-by (stepCheck plan (arb .position) (length xs)) (advanced plan arb xs) arb (ownerOf plan (arb .position))
+    (served-either (ownerOf plan (arb .position)) (joined plan arb xs))
