@@ -123,10 +123,10 @@ pub fn advance(plan: Plan, arbiter: Arbiter, arrivals: &[u8]) -> Stepped
     let position = arbiter.position;
     let pending = arbiter.pending;
     let owners = plan.owners;
-    let owner = owners[position];
+    let owner = wide(owners[position]);
     let counts = join(plan, pending, arrivals);
     let turned = turn_away(plan, pending, arrivals);
-    let served = served_by(wide(owner), counts);
+    let served = served_by(owner, counts);
     let left = less_one(served, counts);
     let answer = Answer {
         service: Service::Given(served),

@@ -14,7 +14,7 @@ array-read-left : tie.Need-array-read-left
 array-read-left c = search needs
 
 sub-left : tie.Need-sub-left
-sub-left c = c .before .pre .1 (c .before .args .served - 1) (omega arith)
+sub-left c = omega (arith, c .before .pre .1 (c .before .args .served - 1) (omega arith))
 
 array-write-left : tie.Need-array-write-left
 array-write-left c = search needs
