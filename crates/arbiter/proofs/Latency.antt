@@ -20,7 +20,7 @@ use Rattle.plan.specs.Check.{planCheck}
 use Rattle.plan.proofs.Laws.{plan-fine}
 use Rattle.arbiter.specs.declared.Arbiter.{Arbiter}
 use Rattle.arbiter.specs.Step.{ruleOf, countOf, arrivedOf}
-use Rattle.arbiter.specs.Run.{Runs, servedOf, takenOf, Held, slotsIn, BusyOf, SatisfiesOf, IsLatencyOf}
+use Rattle.arbiter.specs.Run.{Runs, servedOf, takenOf, Typed, slotsIn, BusyOf, SatisfiesOf, IsLatencyOf}
 use Rattle.arbiter.proofs.Laws.{rule-lawful}
 use Rattle.arbiter.proofs.Runs.{mine, mine-first, mine-length, mine-at, runs-first, served-is, taken-is}
 use Rattle.arbiter.proofs.Runs.{served-run, taken-run}
@@ -42,6 +42,10 @@ module _ (n : ℕ) where
   spread-mine i l [] = refl
   spread-mine i l (x ∷ xs) = rw (getD-replicate n i x 0 l, spread-mine i l xs)
 
+  spread-length : (xs : List ℕ) → length (spread n xs) ≡ length xs
+  unfolding spread
+  spread-length xs = length-map xs (λ (x : ℕ). replicate n x)
+
   spread-long : (xs : List ℕ) (d : ℕ) → d < length (spread n xs) → length (getD (spread n xs) d []) ≡ n
   unfolding spread
   spread-long [] d l = absurd (omega arith)
@@ -57,7 +61,7 @@ module _ (n : ℕ) where
 module _ (plan : Plan) (i : ℕ) (i< : i < plan .n) where
   -- ---- a run of the arbiter is one of the queue
 
-  pub satisfies-runs : (x y : ℕ)
+  satisfies-runs : (x y : ℕ)
       → Satisfies (ruleOf plan i) (ownOf plan (i + 1)) (plan .f) (slotsIn plan i) x y → SatisfiesOf plan i x y
   satisfies-runs x y sat arb xss held runs busy =
       let arrivals : Arrivals (mine i xss) = λ d. rw (mine-at i d xss) (held .arrivals d i) in
@@ -73,11 +77,11 @@ module _ (plan : Plan) (i : ℕ) (i< : i < plan .n) where
 
   -- ---- and each run of the queue is had from the arbiter
 
-  module _ (checked : planCheck plan ≡ Fine) (s v : ℕ) (xs : List ℕ) where
-    alike : Arbiter
-    alike = record { position = s % plan .f; pending = replicate 8 v }
+  alike : (s v : ℕ) → Arbiter
+  alike s v = record { position = s % plan .f; pending = replicate 8 v }
 
-    alike-runs : Runs plan alike (spread (plan .n) xs)
+  module _ (checked : planCheck plan ≡ Fine) (s v : ℕ) (xs : List ℕ) where
+    alike-runs : Runs plan (alike s v) (spread (plan .n) xs)
     unfolding alike
     alike-runs =
         record {
@@ -86,7 +90,7 @@ module _ (plan : Plan) (i : ℕ) (i< : i < plan .n) where
           lists = spread-long (plan .n) xs;
         }
 
-    alike-held : v ≤ mostPending → Arrivals xs → Held alike (spread (plan .n) xs)
+    alike-held : v ≤ mostPending → Arrivals xs → Typed (alike s v) (spread (plan .n) xs)
     unfolding alike
     alike-held v≤ arrivals =
         record {
@@ -95,38 +99,34 @@ module _ (plan : Plan) (i : ℕ) (i< : i < plan .n) where
           arrivals = spread-arrivals (plan .n) xs arrivals;
         }
 
-    alike-count : countOf alike i ≡ v
+    alike-count : countOf (alike s v) i ≡ v
     unfolding alike
     alike-count = getD-replicate 8 i v 0 (omega (arith, i<, plan-fine plan checked .bounds .n-high))
 
-    alike-served : servedOf plan i alike (spread (plan .n) xs)
+    alike-served : servedOf plan i (alike s v) (spread (plan .n) xs)
         ≡ served (ruleOf plan i) (ownOf plan (i + 1)) s v xs
     unfolding alike
     alike-served =
         rw (alike-count, spread-mine (plan .n) i i< xs) at
-        (served-is plan i i< alike (spread (plan .n) xs) s alike-runs refl)
+        (served-is plan i i< (alike s v) (spread (plan .n) xs) s alike-runs refl)
 
-    alike-taken : (k : ℕ) → takenOf plan i alike (take k (spread (plan .n) xs))
+    alike-taken : (k : ℕ) → takenOf plan i (alike s v) (take k (spread (plan .n) xs))
         ≡ taken (ruleOf plan i) (ownOf plan (i + 1)) s v (take k xs)
     unfolding alike
     alike-taken k =
         rw (alike-count, mine-first i k (spread (plan .n) xs), spread-mine (plan .n) i i< xs) at
-        (taken-is plan i i< alike (take k (spread (plan .n) xs)) s
-        (runs-first plan alike (spread (plan .n) xs) k alike-runs) refl)
-
-    alike-long : length (spread (plan .n) xs) ≡ length xs
-    unfolding spread
-    alike-long = length-map xs (λ (x : ℕ). replicate (plan .n) x)
+        (taken-is plan i i< (alike s v) (take k (spread (plan .n) xs)) s
+        (runs-first plan (alike s v) (spread (plan .n) xs) k alike-runs) refl)
 
     alike-busy : Busy (ruleOf plan i) (ownOf plan (i + 1)) (plan .f) (slotsIn plan i) s v xs
-        → BusyOf plan i alike (spread (plan .n) xs)
-    alike-busy busy k l = rw (alike-count, alike-taken k) (busy k (omega (arith, l, alike-long)))
+        → BusyOf plan i (alike s v) (spread (plan .n) xs)
+    alike-busy busy k l = rw (alike-count, alike-taken k) (busy k (omega (arith, l, spread-length (plan .n) xs)))
 
-  pub runs-satisfy : planCheck plan ≡ Fine → (x y : ℕ) → SatisfiesOf plan i x y
+  runs-satisfy : planCheck plan ≡ Fine → (x y : ℕ) → SatisfiesOf plan i x y
       → Satisfies (ruleOf plan i) (ownOf plan (i + 1)) (plan .f) (slotsIn plan i) x y
   runs-satisfy checked x y sat s v xs v≤ arrivals busy =
-      rw (alike-served checked s v xs, alike-long checked s v xs) at
-      (sat (alike checked s v xs) (spread (plan .n) xs) (alike-held checked s v xs v≤ arrivals)
+      rw (alike-served checked s v xs, spread-length (plan .n) xs) at
+      (sat (alike s v) (spread (plan .n) xs) (alike-held checked s v xs v≤ arrivals)
       (alike-runs checked s v xs) (alike-busy checked s v xs busy))
 
   -- ---- so L/m is the latency of the arbiter's runs

@@ -1,68 +1,66 @@
 -- Laws of the arbiter's step for crates above: what a step takes, turns away, serves and leaves, client by client, and
 -- when a request is served.
 -- Assumes nothing.
-use mathlib.Core.Path.{_≡_, refl, sym, _∙_}
-use mathlib.Core.List.{List}
-use Prim.Native.Nat.{ℕ, suc, _+_, _%_, _≤_, _<_}
-use native.Mathlib.Nat.{mod-lt, mod-eq-of-lt}
+use mathlib.Core.Path.{_≡_, refl, sym, ap, _∙_}
+use mathlib.Core.List.{List, [], _∷_}
+use Prim.Native.Nat.{ℕ, suc, _+_, _*_, _≤_, _<_}
 use native.Mathlib.Omega.{arith}
-use lib.ListN.{length, getD}
-use Rattle.frame.specs.Frame.{Frame, Bounded, IsWait}
+use lib.ListN.{length, getD, take}
+use Rattle.frame.specs.Frame.{Frame, Bounded}
 use Rattle.frame.specs.Queue.{Lawful, mostPending}
 use Rattle.frame.proofs.Queue.{one-slot-lawful, one-slot-rest}
 use Rattle.frame.proofs.Service.{served-in-wait}
+use Rattle.records.specs.Refusal as refusal
+use Rattle.records.proofs.Refusals.{numbered-fine}
 use Rattle.records.proofs.Lists.{onto-past, padded-past, get-replicate}
-use Rattle.records.specs.declared.Outcome.{Outcome}
-use Rattle.records.specs.declared.Outcome.the-variants.{Fine, Refused}
 use Rattle.plan.specs.declared.Plan.{Plan}
-use Rattle.plan.specs.Plan.{ownerOf, ownOf}
+use Rattle.plan.specs.Plan.{ownerOf, isClient, ownOf, Same}
 use Rattle.arbiter.specs.declared.Arbiter.{Arbiter}
 use Rattle.arbiter.specs.declared.Stepped.{Stepped}
-use Rattle.arbiter.specs.Step.{ruleOf, countOf, arrivedOf, queueAt, turnedAt, joined, servedNow, advanced, stepOf}
-use Rattle.arbiter.specs.Step.{stepCheck, refusedStep, steppedBy, clientIn}
-use Rattle.arbiter.specs.Run.{Runs, serves, pendingOf, servedInOf}
-use Rattle.arbiter.proofs.Questions.{Steps, step-fine}
-use Rattle.arbiter.proofs.Slots.{served-most, less-other}
-use Rattle.arbiter.proofs.Runs.{mine, mine-length, next-position, step-served, step-left, step-turned}
-use Rattle.arbiter.proofs.Runs.{pending-run, served-in-run}
+use Rattle.arbiter.specs.Step.{ruleFor, ruleOf, countOf, arrivedOf, queueAt, turnedAt, joined, servedNow}
+use Rattle.arbiter.specs.Step.{advanced, stepOf, stepNumber, clientServed}
+use Rattle.arbiter.specs.Run.{recordAfter, totalOf, Runs, servedOf, takenOf, turnedOf, pendingOf, servedInOf}
+use Rattle.arbiter.specs.Run.{Agree}
+use Rattle.arbiter.proofs.Questions.{Steps, step-fine, step-numbered}
+use Rattle.arbiter.proofs.Slots.{served-at-most, less-other, either, step-number}
+use Rattle.arbiter.proofs.Runs.{place-itself, mine, mine-length, step-served, step-left, step-turned}
+use Rattle.arbiter.proofs.Runs.{pending-run, served-in-run, steps-at, runs-on}
 
 -- ---- the rule in force
 
 pub rule-lawful : (plan : Plan) (i : ℕ) → Lawful (ruleOf plan i)
-unfolding ruleOf
+unfolding ruleFor
 rule-lawful plan i = one-slot-lawful
 
--- one rule for all
-pub rule-same : (plan other : Plan) (i : ℕ) → ruleOf plan i ≡ ruleOf other i
-unfolding ruleOf
-rule-same plan other i = refl
+pub same-rule : (plan other : Plan) → Same plan other → (i : ℕ) → i < plan .n → ruleOf plan i ≡ ruleOf other i
+same-rule plan other same i l = ap ruleFor (same .clients i l)
+
+pub agree-rule : {i : ℕ} {plan other : Plan} {arb arb′ : Arbiter} {xss yss : List (List ℕ)}
+    → Agree i plan other arb arb′ xss yss → ruleOf plan i ≡ ruleOf other i
+unfolding ruleFor
+agree-rule agree = refl
 
 -- what is taken and what is turned away make up what arrived
 pub rule-rest : (plan : Plan) (i v x : ℕ) → ruleOf plan i .takes v x + ruleOf plan i .turns v x ≡ x
-unfolding ruleOf
+unfolding ruleFor
 rule-rest plan i v x = one-slot-rest v x
 
 -- all of it is taken while there is room
 pub rule-all : (plan : Plan) (i v x : ℕ) → v + x ≤ mostPending → ruleOf plan i .takes v x ≡ x
-unfolding ruleOf
+unfolding ruleFor
 rule-all plan i v x l = omega arith
 
 -- ---- one step
 
 module _ (plan : Plan) (arb : Arbiter) (xs : List ℕ) (ok : Steps plan (arb .position) (length xs)) where
-  here : arb .position ≡ arb .position % plan .f
-  here = sym (mod-eq-of-lt (ok .below))
-
-  pub next-below : stepOf plan arb xs .next .position < plan .f
-  next-below = rw (next-position plan arb xs ok) (mod-lt (suc (arb .position)) (ok .checked .bounds .f-low))
-
   module _ (i : ℕ) (i< : i < plan .n) where
     -- left and served make up what was pending and what is taken
     pub step-balance : countOf (stepOf plan arb xs .next) i
-        + serves (i + 1) (clientIn (stepOf plan arb xs .answer .service))
+        + isClient (i + 1) (clientServed (stepOf plan arb xs .answer .service))
         ≡ countOf arb i + ruleOf plan i .takes (countOf arb i) (arrivedOf xs i)
     step-balance =
         let s = arb .position in
+        let here = place-itself (plan .f) s (ok .below) in
         omega (arith, step-left plan arb xs ok i i< s here, step-served plan arb xs ok i i< s here)
 
     -- what is turned away and what is taken make up what arrived
@@ -74,29 +72,18 @@ module _ (plan : Plan) (arb : Arbiter) (xs : List ℕ) (ok : Steps plan (arb .po
   unfolding advanced
   advanced-kept i n≤ =
       let owner = ok .checked .owned (arb .position) (ok .below) in
-      let most = served-most (ownerOf plan (arb .position)) (joined plan arb xs) in
+      let most = served-at-most (ownerOf plan (arb .position)) (joined plan arb xs) in
       less-other (servedNow plan arb xs) i (joined plan arb xs) (omega (arith, owner, most))
       ∙ onto-past (queueAt plan arb xs) (plan .n) (arb .pending) 0 i n≤
 
 -- ---- past n, whether a step is refused or not
-
--- what holds of a step that is refused and of one that is not
-either : (P : Stepped → Type 0) (plan : Plan) (arb : Arbiter) (xs : List ℕ)
-    → ((number : ℕ) → P (refusedStep number arb))
-    → (Steps plan (arb .position) (length xs) → P (advanced plan arb xs)) → P (stepOf plan arb xs)
-unfolding stepOf
-either P plan arb xs refused goes = by (stepCheck plan (arb .position) (length xs)) refl
-  where
-    by : (o : Outcome) → stepCheck plan (arb .position) (length xs) ≡ o → P (steppedBy o (advanced plan arb xs) arb)
-    by Fine e = goes (step-fine plan (arb .position) (length xs) e)
-    by (Refused number offset) e = refused number
 
 -- "Counts past n are not read and are kept"
 pub step-kept : (plan : Plan) (arb : Arbiter) (xs : List ℕ) (i : ℕ) → plan .n ≤ i
     → countOf (stepOf plan arb xs .next) i ≡ countOf arb i
 step-kept plan arb xs i n≤ =
     either (λ (r : Stepped). countOf (r .next) i ≡ countOf arb i) plan arb xs (λ number. refl)
-    (λ ok. advanced-kept plan arb xs ok i n≤)
+    (λ fine. advanced-kept plan arb xs (step-fine plan _ _ fine) i n≤)
 
 -- "each client's turned-away count, 0 past n"
 pub step-none : (plan : Plan) (arb : Arbiter) (xs : List ℕ) (i : ℕ) → plan .n ≤ i
@@ -104,17 +91,43 @@ pub step-none : (plan : Plan) (arb : Arbiter) (xs : List ℕ) (i : ℕ) → plan
 unfolding advanced
 step-none plan arb xs i n≤ =
     either (λ (r : Stepped). getD (r .answer .turned) i 0 ≡ 0) plan arb xs (λ number. get-replicate 8 0 i)
-    (λ ok. padded-past (turnedAt plan arb xs) (plan .n) 8 0 i n≤)
+    (λ fine. padded-past (turnedAt plan arb xs) (plan .n) 8 0 i n≤)
+
+-- a step that is not refused has the bounds
+pub step-bounds : (plan : Plan) (arb : Arbiter) (xs : List ℕ) → stepNumber (stepOf plan arb xs .answer .service) ≡ 0
+    → Steps plan (arb .position) (length xs)
+step-bounds plan arb xs none =
+    let numbered = step-numbered refusal.arrivals (omega arith) plan (arb .position) (length xs) in
+    step-fine plan _ _ (numbered-fine refusal.arrivals _ numbered (sym (step-number plan arb xs) ∙ none))
 
 -- ---- a run of steps
+
+-- what is taken and what is turned away make up what arrived
+pub taken-rest : (plan : Plan) (i : ℕ) → i < plan .n → (arb : Arbiter) (xss : List (List ℕ)) → Runs plan arb xss
+    → takenOf plan i arb xss + turnedOf plan i arb xss ≡ totalOf plan (λ arb xs. arrivedOf xs i) arb xss
+unfolding totalOf recordAfter
+taken-rest plan i i< arb [] runs = refl
+taken-rest plan i i< arb (xs ∷ xss) runs =
+    let here = step-rest plan arb xs (steps-at plan arb (xs ∷ xss) 0 runs (omega arith)) i i< in
+    omega (arith, here, taken-rest plan i i< (stepOf plan arb xs .next) xss (runs-on plan arb xs xss runs))
 
 -- "a request that is k-th in its queue after arrivals", in slot d, "is served within the wait for k, that slot counted
 -- first"
 pub run-in-wait : (plan : Plan) (i : ℕ) → i < plan .n → (arb : Arbiter) (xss : List (List ℕ)) → Runs plan arb xss
     → {m L : ℕ} → Frame (ownOf plan (i + 1)) (plan .f) m → Bounded (ownOf plan (i + 1)) (plan .f) m L
-    → (d k r : ℕ) → IsWait (plan .f) m L k r → 0 < k → k ≤ pendingOf plan i arb xss d → d + r ≤ length xss
+    → (d k r : ℕ) → L + k * plan .f ≤ m * r → k ≤ pendingOf plan i arb xss d → d + r ≤ length xss
     → k ≤ servedInOf plan i arb xss d r
-run-in-wait plan i i< arb xss runs frame bounded d k r wait k> l fits =
+run-in-wait plan i i< arb xss runs frame bounded d k r enough l fits =
     rw (served-in-run plan i i< arb xss runs d r fits)
-    (served-in-wait (ruleOf plan i) frame bounded (arb .position) (countOf arb i) (mine i xss) d k r wait k>
+    (served-in-wait (ruleOf plan i) frame bounded (arb .position) (countOf arb i) (mine i xss) d k r enough
     (omega (arith, l, pending-run plan i i< arb xss runs d)) (omega (arith, fits, mine-length i xss)))
+
+-- from the run's first slot on
+pub first-in-wait : (plan : Plan) (i : ℕ) → i < plan .n → (arb : Arbiter) (xs : List ℕ) (xss : List (List ℕ))
+    → Runs plan arb (xs ∷ xss)
+    → {m L : ℕ} → Frame (ownOf plan (i + 1)) (plan .f) m → Bounded (ownOf plan (i + 1)) (plan .f) m L
+    → (k r : ℕ) → L + k * plan .f ≤ m * r → k ≤ queueAt plan arb xs i → r ≤ suc (length xss)
+    → k ≤ servedOf plan i arb (take r (xs ∷ xss))
+unfolding recordAfter
+first-in-wait plan i i< arb xs xss runs frame bounded k r enough l fits =
+    run-in-wait plan i i< arb (xs ∷ xss) runs frame bounded 0 k r enough l (omega arith)

@@ -2,15 +2,13 @@
 -- entries; each refusal has its number.
 -- Assumes nothing.
 use mathlib.Core.Path.{_≡_}
-use mathlib.Core.Logic.{_≢_}
 use Prim.Native.Nat.{ℕ, _≤_, _<_}
 use native.Mathlib.Omega.{arith}
 use lib.Dec.{ltb, eqb}
-use borrow.Author.Tests.{ltb-true, eqb-true, lt-ltb, le-ltb, eq-eqb, ne-eqb}
+use borrow.Author.Tests.{ltb-true, eqb-true, lt-ltb, eq-eqb}
 use Rattle.records.specs.Refusal as refusal
-use Rattle.records.specs.First.{need, orElse, Numbered}
-use Rattle.records.specs.declared.Outcome.{Outcome}
-use Rattle.records.specs.declared.Outcome.the-variants.{Fine, Refused}
+use Rattle.records.specs.First.{orElse, Numbered}
+use Rattle.records.specs.declared.Outcome.the-variants.{Fine}
 use Rattle.records.proofs.Checks.{both-fine, need-fine}
 use Rattle.records.proofs.Refusals.{or-each, need-numbered}
 use Rattle.plan.specs.declared.Plan.{Plan}
@@ -18,7 +16,7 @@ use Rattle.plan.specs.Plan.{ownerOf}
 use Rattle.plan.specs.Check.{planCheck}
 use Rattle.plan.proofs.Laws.{Checked, plan-fine, plan-pass}
 use Rattle.plan.proofs.Refusals.{plan-numbered}
-use Rattle.arbiter.specs.Step.{placeCheck, stepCheck}
+use Rattle.arbiter.specs.Step.{positionCheck, arrivalsCheck, stepCheck}
 
 -- what a step has that passes
 pub record Steps (plan : Plan) (position arrived : ℕ) : Type 0 where
@@ -28,7 +26,7 @@ pub record Steps (plan : Plan) (position arrived : ℕ) : Type 0 where
 
 pub step-fine : (plan : Plan) (position arrived : ℕ) → stepCheck plan position arrived ≡ Fine
     → Steps plan position arrived
-unfolding stepCheck placeCheck
+unfolding stepCheck positionCheck arrivalsCheck
 step-fine plan position arrived h =
     let a = both-fine _ _ h in
     let b = both-fine _ _ (a .1) in
@@ -38,40 +36,25 @@ step-fine plan position arrived h =
       many = eqb-true arrived (plan .n) (need-fine _ refusal.arrivals 0 (b .1));
     }
 
--- its slot's owner is idle or a client
+pub step-pass : (plan : Plan) (position arrived : ℕ) → Steps plan position arrived
+    → stepCheck plan position arrived ≡ Fine
+unfolding stepCheck positionCheck arrivalsCheck
+step-pass plan position arrived ok =
+    simp (plan-pass plan (ok .checked), lt-ltb position (plan .f) (ok .below), eq-eqb arrived (plan .n) (ok .many))
+
+-- the owner of its slot is 0 or a client
 pub owner-small : (plan : Plan) (position arrived : ℕ) → Steps plan position arrived → ownerOf plan position ≤ 8
 owner-small plan position arrived ok =
     omega (arith, ok .checked .owned position (ok .below), ok .checked .bounds .n-high)
 
-pub place-high : (plan : Plan) (position arrived : ℕ) → plan .f ≤ position
-    → placeCheck plan position arrived ≡ Refused refusal.position 0
-unfolding placeCheck
-place-high plan position arrived h = simp (le-ltb position (plan .f) h)
-
-pub place-many : (plan : Plan) (position arrived : ℕ) → position < plan .f → arrived ≢ plan .n
-    → placeCheck plan position arrived ≡ Refused refusal.arrivals 0
-unfolding placeCheck
-place-many plan position arrived l h = simp (lt-ltb position (plan .f) l, ne-eqb arrived (plan .n) h)
-
-pub place-pass : (plan : Plan) (position arrived : ℕ) → position < plan .f → arrived ≡ plan .n
-    → placeCheck plan position arrived ≡ Fine
-unfolding placeCheck
-place-pass plan position arrived l h = simp (lt-ltb position (plan .f) l, eq-eqb arrived (plan .n) h)
-
-pub step-pass : (plan : Plan) (position arrived : ℕ) → Steps plan position arrived
-    → stepCheck plan position arrived ≡ Fine
-unfolding stepCheck
-step-pass plan position arrived ok =
-    rw (plan-pass plan (ok .checked)) (place-pass plan position arrived (ok .below) (ok .many))
-
 -- "Each refusal has its number"
 pub step-numbered : (most : ℕ) → refusal.arrivals ≤ most → (plan : Plan) (position arrived : ℕ)
     → Numbered most (stepCheck plan position arrived)
-unfolding stepCheck placeCheck
+unfolding stepCheck positionCheck arrivalsCheck
 step-numbered most h plan position arrived =
-    let place : Outcome = need (ltb position (plan .f)) refusal.position 0 in
-    let many : Outcome = need (eqb arrived (plan .n)) refusal.arrivals 0 in
-    or-each (Numbered most) (planCheck plan) (orElse place many) (plan-numbered most (omega arith) plan)
-    (or-each (Numbered most) place many
+    let below = positionCheck (plan .f) position in
+    let many = arrivalsCheck (plan .n) arrived in
+    or-each (Numbered most) (planCheck plan) (orElse below many) (plan-numbered most (omega arith) plan)
+    (or-each (Numbered most) below many
     (need-numbered most (ltb position (plan .f)) refusal.position 0 (omega arith) (omega arith))
     (need-numbered most (eqb arrived (plan .n)) refusal.arrivals 0 (omega arith) h))

@@ -11,21 +11,25 @@ use native.Mathlib.Omega.{arith}
 use lib.ListN.{length, getD, take, drop, length-take, length-map, List·getD-map}
 use lib.Seq.{getD-take, getD-drop, length-take-le}
 use Rattle.frame.specs.Frame.{nextOf}
-use Rattle.frame.specs.Queue.{serve, queue, after, left, total, taken, turned, served, pending, servedIn}
+use Rattle.frame.specs.Queue.{serve, after, left, total, taken, turned, served, pending, servedIn}
 use Rattle.frame.proofs.Within.{next-mod}
-use Rattle.records.proofs.Lists.{get-onto, within-onto, get-padded}
+use Rattle.records.proofs.Lists.{get-onto, onto-reaches, get-padded}
 use Rattle.plan.specs.declared.Plan.{Plan}
-use Rattle.plan.specs.Plan.{ownerOf, ownIn, ownOf}
+use Rattle.plan.specs.Plan.{ownerOf, isClient, ownIn, ownOf}
 use Rattle.plan.proofs.Laws.{plan-fine}
 use Rattle.arbiter.specs.declared.Arbiter.{Arbiter}
 use Rattle.arbiter.specs.Step.{ruleOf, countOf, arrivedOf, queueAt, turnedAt, joined, servedNow, advanced, stepOf}
-use Rattle.arbiter.specs.Step.{clientIn}
-use Rattle.arbiter.specs.Run.{recordAfter, totalOf, Runs, serves, servedOf, turnedOf, takenOf, pendingOf}
+use Rattle.arbiter.specs.Step.{clientServed}
+use Rattle.arbiter.specs.Run.{recordAfter, totalOf, Runs, servedOf, turnedOf, takenOf, pendingOf}
 use Rattle.arbiter.specs.Run.{servedInOf}
 use Rattle.arbiter.proofs.Questions.{Steps, step-pass}
 use Rattle.arbiter.proofs.Slots.{serves-is, less-is, step-advances}
 
 -- ---- one step
+
+-- a position below f is its own place in the frame
+pub place-itself : (f position : ℕ) → position < f → position ≡ position % f
+place-itself f position l = sym (mod-eq-of-lt l)
 
 module _ (plan : Plan) (arb : Arbiter) (xs : List ℕ) (ok : Steps plan (arb .position) (length xs)) where
   pub advances-so : stepOf plan arb xs ≡ advanced plan arb xs
@@ -36,12 +40,15 @@ module _ (plan : Plan) (arb : Arbiter) (xs : List ℕ) (ok : Steps plan (arb .po
   unfolding advanced
   next-position = rw advances-so
 
+  pub next-below : stepOf plan arb xs .next .position < plan .f
+  next-below = rw next-position (mod-lt (suc (arb .position)) (ok .checked .bounds .f-low))
+
   module _ (i : ℕ) (i< : i < plan .n) where
     joined-at : getD (joined plan arb xs) i 0 ≡ queueAt plan arb xs i
     joined-at = get-onto (queueAt plan arb xs) (plan .n) (arb .pending) 0 i i<
 
-    served-here : serves (i + 1) (servedNow plan arb xs)
-        ≡ serve (serves (i + 1) (ownerOf plan (arb .position))) (queueAt plan arb xs i)
+    served-here : isClient (i + 1) (servedNow plan arb xs)
+        ≡ serve (isClient (i + 1) (ownerOf plan (arb .position))) (queueAt plan arb xs i)
     served-here =
         rw joined-at at (serves-is (ownerOf plan (arb .position)) i (joined plan arb xs))
 
@@ -50,11 +57,11 @@ module _ (plan : Plan) (arb : Arbiter) (xs : List ℕ) (ok : Steps plan (arb .po
     step-turned = rw advances-so (get-padded (turnedAt plan arb xs) (plan .n) 8 0 i i<)
 
     module _ (s : ℕ) (at : arb .position ≡ s % plan .f) where
-      own-here : serves (i + 1) (ownerOf plan (arb .position)) ≡ ownOf plan (i + 1) s
+      own-here : isClient (i + 1) (ownerOf plan (arb .position)) ≡ ownOf plan (i + 1) s
       unfolding ownIn
       own-here = rw at
 
-      pub step-served : serves (i + 1) (clientIn (stepOf plan arb xs .answer .service))
+      pub step-served : isClient (i + 1) (clientServed (stepOf plan arb xs .answer .service))
           ≡ serve (ownOf plan (i + 1) s) (queueAt plan arb xs i)
       unfolding advanced
       step-served = rw (advances-so, ← own-here) served-here
@@ -63,7 +70,7 @@ module _ (plan : Plan) (arb : Arbiter) (xs : List ℕ) (ok : Steps plan (arb .po
           ≡ after (ruleOf plan i) (ownOf plan (i + 1) s) (countOf arb i) (arrivedOf xs i)
       unfolding advanced
       step-left =
-          let long = within-onto (queueAt plan arb xs) (plan .n) (arb .pending) in
+          let long = onto-reaches (queueAt plan arb xs) (plan .n) (arb .pending) in
           rw (advances-so, ← own-here, ← served-here, ← joined-at)
           (less-is (servedNow plan arb xs) i (joined plan arb xs) (omega (arith, long)))
 
@@ -75,7 +82,7 @@ module _ (plan : Plan) where
   first-steps arb xs xss runs =
       record { checked = plan-fine plan (runs .checked); below = runs .position; many = runs .lists 0 (omega arith) }
 
-  pub position-on : (arb : Arbiter) (xs : List ℕ) (xss : List (List ℕ)) (s : ℕ) → Runs plan arb (xs ∷ xss)
+  position-on : (arb : Arbiter) (xs : List ℕ) (xss : List (List ℕ)) (s : ℕ) → Runs plan arb (xs ∷ xss)
       → arb .position ≡ s % plan .f → stepOf plan arb xs .next .position ≡ suc s % plan .f
   position-on arb xs xss s runs at =
       let goes = next-position plan arb xs (first-steps arb xs xss runs) in
@@ -84,15 +91,13 @@ module _ (plan : Plan) where
   pub runs-on : (arb : Arbiter) (xs : List ℕ) (xss : List (List ℕ)) → Runs plan arb (xs ∷ xss)
       → Runs plan (stepOf plan arb xs .next) xss
   runs-on arb xs xss runs =
-      let at : arb .position ≡ arb .position % plan .f = sym (mod-eq-of-lt (runs .position)) in
-      let f> : 0 < plan .f = omega (arith, runs .position) in
       record {
         checked = runs .checked;
-        position = rw (position-on arb xs xss (arb .position) runs at) (mod-lt (suc (arb .position)) f>);
+        position = next-below plan arb xs (first-steps arb xs xss runs);
         lists = λ d l. runs .lists (suc d) (omega arith);
       }
 
-  pub position-after : (arb : Arbiter) (xss : List (List ℕ)) (s : ℕ) → Runs plan arb xss → arb .position ≡ s % plan .f
+  position-after : (arb : Arbiter) (xss : List (List ℕ)) (s : ℕ) → Runs plan arb xss → arb .position ≡ s % plan .f
       → recordAfter plan arb xss .position ≡ (s + length xss) % plan .f
   unfolding recordAfter
   position-after arb [] s runs at = rw (add-zero s) at
@@ -114,8 +119,8 @@ module _ (plan : Plan) where
   below-after : (arb : Arbiter) (xss : List (List ℕ)) (d : ℕ) → Runs plan arb xss
       → recordAfter plan arb (take d xss) .position < plan .f
   below-after arb xss d runs =
-      let at : arb .position ≡ arb .position % plan .f = sym (mod-eq-of-lt (runs .position)) in
-      let to = position-after arb (take d xss) (arb .position) (runs-first arb xss d runs) at in
+      let here = place-itself (plan .f) (arb .position) (runs .position) in
+      let to = position-after arb (take d xss) (arb .position) (runs-first arb xss d runs) here in
       let f> : 0 < plan .f = omega (arith, runs .position) in
       rw to (mod-lt (arb .position + length (take d xss)) f>)
 
@@ -125,7 +130,7 @@ module _ (plan : Plan) where
   steps-at arb xss d runs l =
       record { checked = plan-fine plan (runs .checked); below = below-after arb xss d runs; many = runs .lists d l }
 
-  pub runs-part : (arb : Arbiter) (xss : List (List ℕ)) (d j : ℕ) → d + j ≤ length xss → Runs plan arb xss
+  runs-part : (arb : Arbiter) (xss : List (List ℕ)) (d j : ℕ) → d + j ≤ length xss → Runs plan arb xss
       → Runs plan (recordAfter plan arb (take d xss)) (take j (drop d xss))
   runs-part arb xss d j fits runs =
       record {
@@ -164,7 +169,7 @@ module _ (i : ℕ) where
   mine-length xss = length-map xss (λ (xs : List ℕ). arrivedOf xs i)
 
 module _ (plan : Plan) (i : ℕ) (i< : i < plan .n) where
-  pub left-is : (arb : Arbiter) (xss : List (List ℕ)) (s : ℕ) → Runs plan arb xss → arb .position ≡ s % plan .f
+  left-is : (arb : Arbiter) (xss : List (List ℕ)) (s : ℕ) → Runs plan arb xss → arb .position ≡ s % plan .f
       → countOf (recordAfter plan arb xss) i
       ≡ left (ruleOf plan i) (ownOf plan (i + 1)) s (countOf arb i) (mine i xss)
   unfolding recordAfter left
@@ -205,7 +210,7 @@ module _ (plan : Plan) (i : ℕ) (i< : i < plan .n) where
 
   module _ (arb : Arbiter) (xss : List (List ℕ)) (runs : Runs plan arb xss) where
     at-position : arb .position ≡ arb .position % plan .f
-    at-position = sym (mod-eq-of-lt (runs .position))
+    at-position = place-itself (plan .f) (arb .position) (runs .position)
 
     pub served-run : servedOf plan i arb xss
         ≡ served (ruleOf plan i) (ownOf plan (i + 1)) (arb .position) (countOf arb i) (mine i xss)

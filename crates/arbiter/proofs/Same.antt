@@ -1,41 +1,41 @@
 -- Plans that are the same step alike, and pending counts past n are not read.
 -- Assumes nothing.
-use mathlib.Core.Path.{_≡_, refl, sym, ap, _∙_, fun-ext}
+use mathlib.Core.Path.{_≡_, refl, sym, ap, _∙_}
 use mathlib.Core.List.{List}
 use Prim.Native.Nat.{ℕ, zero, suc, _+_, _<_}
-use native.Mathlib.Nat.{mod-eq-of-lt}
 use native.Mathlib.Omega.{arith}
 use lib.ListN.{length, getD}
 use Rattle.frame.specs.Queue.{Rule, queue, after}
 use Rattle.records.specs.declared.Outcome.{Outcome}
 use Rattle.records.specs.declared.Outcome.the-variants.{Fine, Refused}
-use Rattle.records.proofs.Lists.{get-onto, padded-same}
+use Rattle.records.proofs.Lists.{get-onto, onto-same, padded-same}
 use Rattle.plan.specs.declared.Plan.{Plan}
 use Rattle.plan.specs.Plan.{ownerOf, ownOf, Same}
 use Rattle.plan.proofs.Laws.{same-check}
 use Rattle.arbiter.specs.declared.Arbiter.{Arbiter}
 use Rattle.arbiter.specs.Step.{ruleOf, countOf, arrivedOf, servedBy, queueAt, turnedAt, joined, servedNow}
-use Rattle.arbiter.specs.Step.{advanced, placeCheck, stepCheck, stepOf}
+use Rattle.arbiter.specs.Step.{advanced, positionCheck, arrivalsCheck, stepCheck, stepOf}
 use Rattle.arbiter.proofs.Questions.{Steps, step-fine}
 use Rattle.arbiter.proofs.Slots.{step-refused, step-advances}
-use Rattle.arbiter.proofs.Runs.{step-left}
-use Rattle.arbiter.proofs.Laws.{rule-same}
+use Rattle.arbiter.proofs.Runs.{place-itself, step-left}
+use Rattle.arbiter.proofs.Laws.{same-rule}
 
 -- ---- plans that are the same
 
 module _ (plan other : Plan) (same : Same plan other) (arb : Arbiter) (xs : List ℕ) where
   check-same : stepCheck plan (arb .position) (length xs) ≡ stepCheck other (arb .position) (length xs)
-  unfolding stepCheck placeCheck
+  unfolding stepCheck positionCheck arrivalsCheck
   check-same = rw (same-check plan other same, same .frame, same .count)
 
   advanced-same : Steps plan (arb .position) (length xs) → advanced plan arb xs ≡ advanced other arb xs
   unfolding advanced
   advanced-same ok =
-      let queues : queueAt plan arb xs ≡ queueAt other arb xs =
-      fun-ext (λ i. ap (λ (r : Rule). queue r (countOf arb i) (arrivedOf xs i)) (rule-same plan other i)) in
-      let turns : turnedAt plan arb xs ≡ turnedAt other arb xs =
-      fun-ext (λ i. ap (λ (r : Rule). r .turns (countOf arb i) (arrivedOf xs i)) (rule-same plan other i)) in
-      rw (same .owners (arb .position) (ok .below), queues, turns, same .frame, same .count)
+      let rule = same-rule plan other same in
+      let joins = onto-same (queueAt plan arb xs) (queueAt other arb xs) (plan .n) (arb .pending)
+      (λ i l. ap (λ (r : Rule). queue r (countOf arb i) (arrivedOf xs i)) (rule i l)) in
+      let turns = padded-same (turnedAt plan arb xs) (turnedAt other arb xs) (plan .n) 8 0
+      (λ i l. ap (λ (r : Rule). r .turns (countOf arb i) (arrivedOf xs i)) (rule i l)) in
+      rw (same .owners (arb .position) (ok .below), joins, turns, same .frame, same .count)
 
   pub same-step : stepOf plan arb xs ≡ stepOf other arb xs
   same-step = by (stepCheck plan (arb .position) (length xs)) refl
@@ -45,7 +45,7 @@ module _ (plan other : Plan) (same : Same plan other) (arb : Arbiter) (xs : List
           step-advances plan arb xs e ∙ advanced-same (step-fine plan _ _ e)
           ∙ sym (step-advances other arb xs (sym check-same ∙ e))
       by (Refused k offset) e =
-          sym (step-refused plan arb xs refl e) ∙ step-refused other arb xs refl (sym check-same ∙ e)
+          step-refused plan arb xs e ∙ sym (step-refused other arb xs (sym check-same ∙ e))
 
 -- ---- "Counts past n are not read"
 
@@ -91,13 +91,13 @@ module _ (plan : Plan) (arb other : Arbiter) (xs : List ℕ) (place : arb .posit
           rw (step-advances plan arb xs e, step-advances plan other xs (at-other Fine e))
           (advanced-unread (step-fine plan _ _ e))
       by (Refused k offset) e =
-          rw (← step-refused plan arb xs refl e, ← step-refused plan other xs refl (at-other (Refused k offset) e))
+          rw (step-refused plan arb xs e, step-refused plan other xs (at-other (Refused k offset) e))
 
   count-goes : Steps plan (arb .position) (length xs) → (i : ℕ) → i < plan .n
       → countOf (stepOf plan arb xs .next) i ≡ countOf (stepOf plan other xs .next) i
   count-goes ok i l =
       let ok′ : Steps plan (other .position) (length xs) = rw place at ok in
-      let here = sym (mod-eq-of-lt (ok .below)) in
+      let here = place-itself (plan .f) (arb .position) (ok .below) in
       step-left plan arb xs ok i l (arb .position) here
       ∙ ap (λ (v : ℕ). after (ruleOf plan i) (ownOf plan (i + 1) (arb .position)) v (arrivedOf xs i)) (counts i l)
       ∙ sym (step-left plan other xs ok′ i l (arb .position) (sym place ∙ here))
@@ -111,4 +111,4 @@ module _ (plan : Plan) (arb other : Arbiter) (xs : List ℕ) (place : arb .posit
       by Fine e = count-goes (step-fine plan _ _ e) i l
       by (Refused k offset) e =
           let e′ : stepCheck plan (other .position) (length xs) ≡ Refused k offset = rw place at e in
-          rw (← step-refused plan arb xs refl e, ← step-refused plan other xs refl e′) (counts i l)
+          rw (step-refused plan arb xs e, step-refused plan other xs e′) (counts i l)

@@ -7,10 +7,10 @@ use mathlib.Core.Logic.{_≢_, _⊎_, inl, inr, ⊎-elim}
 use Prim.Native.Nat.{ℕ, zero, suc, _+_, _-_, _≤_, _<_}
 use native.Mathlib.Decide.{ℕ-discrete, decLt}
 use native.Mathlib.Omega.{arith}
-use lib.Dec.{ltb, eqb}
+use lib.Dec.{ltb}
 use lib.ListN.{length, getD, set}
 use lib.Seq.{getD-set-same, getD-set-other}
-use borrow.Author.Tests.{ltb-true, lt-ltb, le-ltb, eq-eqb, ne-eqb}
+use borrow.Author.Tests.{ltb-true, lt-ltb, le-ltb}
 use Rattle.frame.specs.Frame.{nextOf}
 use Rattle.frame.specs.Queue.{serve}
 use Rattle.records.specs.First.{pick, numberOf}
@@ -18,13 +18,13 @@ use Rattle.records.specs.declared.Outcome.{Outcome}
 use Rattle.records.specs.declared.Outcome.the-variants as outcome
 use Rattle.records.specs.Pieces.{padded}
 use Rattle.plan.specs.declared.Plan.{Plan}
-use Rattle.plan.specs.Plan.{ownerOf}
+use Rattle.plan.specs.Plan.{ownerOf, isClient}
+use Rattle.plan.proofs.Laws.{client-is, client-not}
 use Rattle.arbiter.specs.declared.Arbiter.{Arbiter}
 use Rattle.arbiter.specs.declared.Service.the-variants.{Given}
 use Rattle.arbiter.specs.declared.Stepped.{Stepped}
 use Rattle.arbiter.specs.Step.{servedBy, lessOne, turnedAt, joined, advanced, stepCheck, refusedStep}
-use Rattle.arbiter.specs.Step.{steppedBy, stepOf, stepNumber, clientIn}
-use Rattle.arbiter.specs.Run.{serves}
+use Rattle.arbiter.specs.Step.{steppedBy, stepOf, stepNumber, clientServed}
 
 -- ---- the client served
 
@@ -49,7 +49,7 @@ served-nobody owner counts l h =
     rw (served-some owner (owner - 1) counts (omega arith), le-ltb 0 (getD counts (owner - 1) 0) h)
 
 -- nobody but the slot's owner
-pub served-either : (owner : ℕ) (counts : List ℕ) → (servedBy owner counts ≡ 0) ⊎ (servedBy owner counts ≡ owner)
+served-either : (owner : ℕ) (counts : List ℕ) → (servedBy owner counts ≡ 0) ⊎ (servedBy owner counts ≡ owner)
 unfolding servedBy
 served-either zero counts = inl refl
 served-either (suc i) counts = by (ltb 0 (getD counts i 0))
@@ -58,12 +58,12 @@ served-either (suc i) counts = by (ltb 0 (getD counts i 0))
     by true = inr refl
     by false = inl refl
 
-pub served-most : (owner : ℕ) (counts : List ℕ) → servedBy owner counts ≤ owner
-served-most owner counts =
+pub served-at-most : (owner : ℕ) (counts : List ℕ) → servedBy owner counts ≤ owner
+served-at-most owner counts =
     ⊎-elim (λ (e : servedBy owner counts ≡ 0). omega arith) (λ (e : servedBy owner counts ≡ owner). omega arith)
     (served-either owner counts)
 
-pub served-other : (owner c : ℕ) (counts : List ℕ) → 0 < c → owner ≢ c → servedBy owner counts ≢ c
+served-other : (owner c : ℕ) (counts : List ℕ) → 0 < c → owner ≢ c → servedBy owner counts ≢ c
 served-other owner c counts c> other e =
     ⊎-elim (λ (h : servedBy owner counts ≡ 0). omega arith) (λ (h : servedBy owner counts ≡ owner). other (sym h ∙ e))
     (served-either owner counts)
@@ -95,30 +95,24 @@ less-some served counts l = sym (less-at served (served - 1) counts (omega arith
 
 -- ---- what client i + 1 sees of both
 
-one-same : (c a : ℕ) → a ≡ c → serves c a ≡ 1
-one-same c a e = rw (eq-eqb a c e)
-
-one-other : (c a : ℕ) → a ≢ c → serves c a ≡ 0
-one-other c a h = rw (ne-eqb a c h)
-
 -- it is served where the slot is its own and it has a request pending
 pub serves-is : (owner i : ℕ) (counts : List ℕ)
-    → serves (i + 1) (servedBy owner counts) ≡ serve (pick (eqb owner (i + 1)) 1 0) (getD counts i 0)
+    → isClient (i + 1) (servedBy owner counts) ≡ serve (isClient (i + 1) owner) (getD counts i 0)
 serves-is owner i counts = by (ℕ-discrete owner (i + 1)) (decLt 0 (getD counts i 0))
   where
     by : Dec (owner ≡ i + 1) → Dec (0 < getD counts i 0)
-        → serves (i + 1) (servedBy owner counts) ≡ serve (pick (eqb owner (i + 1)) 1 0) (getD counts i 0)
+        → isClient (i + 1) (servedBy owner counts) ≡ serve (isClient (i + 1) owner) (getD counts i 0)
     by (yes e) (yes h) =
         let named : servedBy owner counts ≡ owner =
         rw (served-some owner i counts (omega arith), lt-ltb 0 (getD counts i 0) h) in
-        rw (named, one-same (i + 1) owner e) (omega arith)
+        rw (named, client-is (i + 1) owner e) (omega arith)
     by (yes e) (no h) =
         let named : servedBy owner counts ≡ 0 =
         rw (served-some owner i counts (omega arith), le-ltb 0 (getD counts i 0) (omega arith)) in
-        rw (named, one-same (i + 1) owner e, one-other (i + 1) 0 (omega arith)) (omega arith)
+        rw (named, client-is (i + 1) owner e, client-not (i + 1) 0 (omega arith)) (omega arith)
     by (no e) h =
         let other = served-other owner (i + 1) counts (omega arith) e in
-        rw (one-other (i + 1) owner e, one-other (i + 1) (servedBy owner counts) other) (omega arith)
+        rw (client-not (i + 1) owner e, client-not (i + 1) (servedBy owner counts) other) (omega arith)
 
 pub less-other : (served i : ℕ) (counts : List ℕ) → served ≢ i + 1 → getD (lessOne served counts) i 0 ≡ getD counts i 0
 unfolding lessOne
@@ -127,14 +121,14 @@ less-other (suc k) i counts h = getD-set-other counts k i (getD counts k 0 - 1) 
 
 -- its count is then one less
 pub less-is : (served i : ℕ) (counts : List ℕ) → i < length counts
-    → getD (lessOne served counts) i 0 ≡ getD counts i 0 - serves (i + 1) served
+    → getD (lessOne served counts) i 0 ≡ getD counts i 0 - isClient (i + 1) served
 less-is served i counts l = by (ℕ-discrete served (i + 1))
   where
-    by : Dec (served ≡ i + 1) → getD (lessOne served counts) i 0 ≡ getD counts i 0 - serves (i + 1) served
+    by : Dec (served ≡ i + 1) → getD (lessOne served counts) i 0 ≡ getD counts i 0 - isClient (i + 1) served
     by (yes e) =
-        rw (less-at served i counts (omega arith), one-same (i + 1) served e)
+        rw (less-at served i counts (omega arith), client-is (i + 1) served e)
         (getD-set-same counts i (getD counts i 0 - 1) 0 l)
-    by (no e) = rw (one-other (i + 1) served e) (less-other served i counts e ∙ omega arith)
+    by (no e) = rw (client-not (i + 1) served e) (less-other served i counts e ∙ omega arith)
 
 -- ---- the whole step
 
@@ -150,14 +144,11 @@ pub advances : (plan : Plan) (arb : Arbiter) (xs counts turned left : List ℕ) 
 unfolding advanced
 advances plan arb xs counts turned left owner served next e t o s l p = rw (l, s, o, e, t, p)
 
--- v, what its checks found, is a refusal
-pub step-refused : (plan : Plan) (arb : Arbiter) (xs : List ℕ) {v : Outcome} {number offset : ℕ}
-    → v ≡ stepCheck plan (arb .position) (length xs) → v ≡ outcome.Refused number offset
-    → refusedStep number arb ≡ stepOf plan arb xs
+pub step-refused : (plan : Plan) (arb : Arbiter) (xs : List ℕ) {number offset : ℕ}
+    → stepCheck plan (arb .position) (length xs) ≡ outcome.Refused number offset
+    → stepOf plan arb xs ≡ refusedStep number arb
 unfolding stepOf
-step-refused plan arb xs {v} {number} {offset} e h =
-    let q : stepCheck plan (arb .position) (length xs) ≡ outcome.Refused number offset = sym e ∙ h in
-    rw q
+step-refused plan arb xs h = rw h
 
 pub step-advances : (plan : Plan) (arb : Arbiter) (xs : List ℕ)
     → stepCheck plan (arb .position) (length xs) ≡ outcome.Fine → stepOf plan arb xs ≡ advanced plan arb xs
@@ -175,18 +166,23 @@ pub step-number : (plan : Plan) (arb : Arbiter) (xs : List ℕ)
 unfolding stepOf advanced
 step-number plan arb xs = number-by (stepCheck plan (arb .position) (length xs)) (advanced plan arb xs) arb refl
 
-named-by : (o : Outcome) (goes : Stepped) (arb : Arbiter) (owner : ℕ)
-    → (clientIn (goes .answer .service) ≡ 0) ⊎ (clientIn (goes .answer .service) ≡ owner)
-    → (clientIn (steppedBy o goes arb .answer .service) ≡ 0)
-    ⊎ (clientIn (steppedBy o goes arb .answer .service) ≡ owner)
-named-by outcome.Fine goes arb owner h = h
-named-by (outcome.Refused number offset) goes arb owner h = inl refl
+-- what holds of a step that is refused and of one that is not
+pub either : (P : Stepped → Type 0) (plan : Plan) (arb : Arbiter) (xs : List ℕ)
+    → ((number : ℕ) → P (refusedStep number arb))
+    → (stepCheck plan (arb .position) (length xs) ≡ outcome.Fine → P (advanced plan arb xs)) → P (stepOf plan arb xs)
+unfolding stepOf
+either P plan arb xs refused goes = by (stepCheck plan (arb .position) (length xs)) refl
+  where
+    by : (o : Outcome) → stepCheck plan (arb .position) (length xs) ≡ o → P (steppedBy o (advanced plan arb xs) arb)
+    by outcome.Fine e = goes e
+    by (outcome.Refused number offset) e = refused number
 
 -- it names nobody but the slot's owner
 pub step-named : (plan : Plan) (arb : Arbiter) (xs : List ℕ)
-    → (clientIn (stepOf plan arb xs .answer .service) ≡ 0)
-    ⊎ (clientIn (stepOf plan arb xs .answer .service) ≡ ownerOf plan (arb .position))
-unfolding stepOf advanced
+    → (clientServed (stepOf plan arb xs .answer .service) ≡ 0)
+    ⊎ (clientServed (stepOf plan arb xs .answer .service) ≡ ownerOf plan (arb .position))
+unfolding advanced
 step-named plan arb xs =
-    named-by (stepCheck plan (arb .position) (length xs)) (advanced plan arb xs) arb (ownerOf plan (arb .position))
-    (served-either (ownerOf plan (arb .position)) (joined plan arb xs))
+    either (λ (r : Stepped). (clientServed (r .answer .service) ≡ 0)
+    ⊎ (clientServed (r .answer .service) ≡ ownerOf plan (arb .position))) plan arb xs (λ number. inl refl)
+    (λ fine. served-either (ownerOf plan (arb .position)) (joined plan arb xs))

@@ -1,20 +1,19 @@
 -- Runs of the arbiter's steps on one plan, each with its list of arrivals, and what one client is given in them
--- (document 01, The arbiter; demand 3; Definition 1 of source 000). What is counted in a run is read off its steps.
+-- (document 01, The arbiter; demand 3; Definition 1 of source 000). Who is served and how many are turned away is read
+-- off the steps' answers; what is pending and what is taken is said by the record before each step and its arrivals.
 use mathlib.Core.Path.{_≡_}
 use mathlib.Core.List.{List, [], _∷_}
 use Prim.Native.Nat.{ℕ, _+_, _*_, _≤_, _<_}
-use lib.Dec.{eqb}
 use lib.ListN.{length, getD, take, drop}
 use Rattle.frame.specs.Frame.{slotsOf}
 use Rattle.frame.specs.Queue.{mostPending, mostArriving}
 use Rattle.frame.specs.Service.{Guaranteed}
-use Rattle.records.specs.First.{pick}
 use Rattle.records.specs.declared.Outcome.the-variants.{Fine}
 use Rattle.plan.specs.declared.Plan.{Plan}
-use Rattle.plan.specs.Plan.{ownOf}
+use Rattle.plan.specs.Plan.{isClient, ownOf}
 use Rattle.plan.specs.Check.{planCheck}
 use Rattle.arbiter.specs.declared.Arbiter.{Arbiter}
-use Rattle.arbiter.specs.Step.{ruleOf, countOf, arrivedOf, queueAt, stepOf, clientIn}
+use Rattle.arbiter.specs.Step.{ruleOf, countOf, arrivedOf, queueAt, stepOf, clientServed}
 
 -- ---- runs
 
@@ -35,16 +34,12 @@ module _ (plan : Plan) where
     pub position : arb .position < plan .f
     pub lists : (d : ℕ) → d < length xss → length (getD xss d []) ≡ plan .n
 
--- 1 where client c is the one served, else 0
-abbrev pub serves : ℕ → ℕ → ℕ
-serves c served = pick (eqb served c) 1 0
-
 -- ---- client i + 1 in a run
 
 module _ (plan : Plan) (i : ℕ) where
   -- how often it is served: in the steps that name it
   abbrev pub servedOf : Arbiter → List (List ℕ) → ℕ
-  servedOf = totalOf plan (λ arb xs. serves (i + 1) (clientIn (stepOf plan arb xs .answer .service)))
+  servedOf = totalOf plan (λ arb xs. isClient (i + 1) (clientServed (stepOf plan arb xs .answer .service)))
 
   -- its requests that are turned away, as the steps count them
   abbrev pub turnedOf : Arbiter → List (List ℕ) → ℕ
@@ -80,8 +75,9 @@ pub record Agree (i : ℕ) (plan other : Plan) (arb arb′ : Arbiter) (xss yss :
 
 -- ---- Definition 1 of source 000, of client i + 1 on the arbiter's runs
 
--- what the types say: eight pending counts of 0 to 255, and arrivals of 0 to 255
-pub record Held (arb : Arbiter) (xss : List (List ℕ)) : Type 0 where
+-- what the types say: eight pending counts of 0 to 255, and arrivals of 0 to 255. Definition 1 is asked of such runs
+-- only, so that the least latency is that of runs that can be
+pub record Typed (arb : Arbiter) (xss : List (List ℕ)) : Type 0 where
   pub eight : length (arb .pending) ≡ 8
   pub counts : (i : ℕ) → countOf arb i ≤ mostPending
   pub arrivals : (d i : ℕ) → arrivedOf (getD xss d []) i ≤ mostArriving
@@ -99,7 +95,7 @@ module _ (plan : Plan) (i : ℕ) where
   -- busy period", at the allocated rate m/f
   abbrev pub SatisfiesOf : ℕ → ℕ → Type 0
   SatisfiesOf x y =
-      (arb : Arbiter) (xss : List (List ℕ)) → Held arb xss → Runs plan arb xss → BusyOf arb xss
+      (arb : Arbiter) (xss : List (List ℕ)) → Typed arb xss → Runs plan arb xss → BusyOf arb xss
       → Guaranteed slotsIn (plan .f) x y (length xss) (servedOf plan i arb xss)
 
   -- "The minimum non-negative constant satisfying the equation is the service latency": of all fractions, it is x/y

@@ -10,8 +10,9 @@ use Rattle.records.specs.First.{pick, need, orElse}
 use Rattle.records.specs.Pieces.{onto, padded}
 use Rattle.records.specs.declared.Outcome.{Outcome}
 use Rattle.records.specs.declared.Outcome.the-variants as outcome
+use Rattle.plan.specs.declared.Client.{Client}
 use Rattle.plan.specs.declared.Plan.{Plan}
-use Rattle.plan.specs.Plan.{ownerOf}
+use Rattle.plan.specs.Plan.{clientOf, ownerOf}
 use Rattle.plan.specs.Check.{planCheck}
 use Rattle.arbiter.specs.declared.Arbiter.{Arbiter}
 use Rattle.arbiter.specs.declared.Service.{Service}
@@ -20,9 +21,13 @@ use Rattle.arbiter.specs.declared.Stepped.{Stepped}
 
 -- ---- one slot
 
--- the rule of client i + 1's queue: one slot a request, whoever the client is
-unfoldable pub ruleOf : Plan → ℕ → Rule
-ruleOf plan i = oneSlot
+-- the rule of a client's queue: one slot a request, whatever it requires
+unfoldable pub ruleFor : Client → Rule
+ruleFor x = oneSlot
+
+-- the rule of client i + 1's queue
+abbrev pub ruleOf : Plan → ℕ → Rule
+ruleOf plan i = ruleFor (clientOf plan i)
 
 -- "a pending count of 0 to 255 for each client": that of client i + 1
 abbrev pub countOf : Arbiter → ℕ → ℕ
@@ -70,14 +75,18 @@ module _ (plan : Plan) (arb : Arbiter) (xs : List ℕ) where
 
 -- ---- refusals
 
--- 17: "the arbiter's position is not below f"; 18: "the arrivals list does not have n entries"
-unfoldable pub placeCheck : Plan → ℕ → ℕ → Outcome
-placeCheck plan position arrived =
-    orElse (need (ltb position (plan .f)) refusal.position 0) (need (eqb arrived (plan .n)) refusal.arrivals 0)
+-- 17: "the arbiter's position is not below f"
+unfoldable pub positionCheck : ℕ → ℕ → Outcome
+positionCheck f position = need (ltb position f) refusal.position 0
+
+-- 18: "the arrivals list does not have n entries"
+unfoldable pub arrivalsCheck : ℕ → ℕ → Outcome
+arrivalsCheck n arrived = need (eqb arrived n) refusal.arrivals 0
 
 -- "a step 17, 18", after the plan's checks
 unfoldable pub stepCheck : Plan → ℕ → ℕ → Outcome
-stepCheck plan position arrived = orElse (planCheck plan) (placeCheck plan position arrived)
+stepCheck plan position arrived =
+    orElse (planCheck plan) (orElse (positionCheck (plan .f) position) (arrivalsCheck (plan .n) arrived))
 
 -- "A refusal .. returns its number with all other results 0, leaves .. an arbiter record unchanged"
 abbrev pub refusedStep : ℕ → Arbiter → Stepped
@@ -101,6 +110,6 @@ stepNumber (service.Given client) = 0
 stepNumber (service.Refused number) = number
 
 -- "The result names the client served, or 0", as a refusal does
-abbrev pub clientIn : Service → ℕ
-clientIn (service.Given client) = client
-clientIn (service.Refused number) = 0
+abbrev pub clientServed : Service → ℕ
+clientServed (service.Given client) = client
+clientServed (service.Refused number) = 0

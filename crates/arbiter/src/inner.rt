@@ -6,6 +6,7 @@ use super::Stepped;
 use frame::inner::next;
 use plan::Plan;
 use records::Outcome;
+use records::or_else;
 use records::refusal;
 use records::wide;
 ghost use mathlib.Core.Path.{_≡_};
@@ -14,26 +15,40 @@ ghost use lib.ListN.{length, getD};
 ghost use Rattle.frame.specs.Queue.{oneSlot, queue};
 ghost use Rattle.records.specs.Pieces.{onto, padded};
 ghost use Rattle.records.specs.declared.Outcome.the-variants.{Fine};
-ghost use Rattle.arbiter.specs.Step.{ruleOf, servedBy, lessOne, stepCheck, advanced};
+ghost use Rattle.arbiter.specs.Step.{ruleOf, servedBy, lessOne, advanced};
+ghost use Rattle.arbiter.specs.Step.{positionCheck, arrivalsCheck, stepCheck};
 
 // The most that a client has pending.
 pub const MOST_PENDING: u8 = 255;
+
+// 17: the position is below f.
+fn check_position(f: usize, position: usize) -> Outcome
+    ensures { λ r. ⌜ r ≡ positionCheck f position ⌝ }
+{
+    if f <= position {
+        return Outcome::Refused(refusal::POSITION, 0);
+    }
+    Outcome::Fine
+}
+
+// 18: the list has n arrivals.
+fn check_arrivals(n: usize, arrived: usize) -> Outcome
+    ensures { λ r. ⌜ r ≡ arrivalsCheck n arrived ⌝ }
+{
+    if arrived != n {
+        return Outcome::Refused(refusal::ARRIVALS, 0);
+    }
+    Outcome::Fine
+}
 
 // The plan's checks, then 17 and 18, for this many arrivals.
 pub fn check_step(plan: Plan, position: usize, arrived: usize) -> Outcome
     ensures { λ r. ⌜ r ≡ stepCheck plan position arrived ⌝ }
 {
     let checked = plan::check(plan);
-    if let Outcome::Refused(number, offset) = checked {
-        return Outcome::Refused(number, offset);
-    }
-    if plan.f <= position {
-        return Outcome::Refused(refusal::POSITION, 0);
-    }
-    if arrived != plan.n {
-        return Outcome::Refused(refusal::ARRIVALS, 0);
-    }
-    Outcome::Fine
+    let below = check_position(plan.f, position);
+    let many = check_arrivals(plan.n, arrived);
+    or_else(checked, or_else(below, many))
 }
 
 // What a client has pending in a slot, where this many arrive.
@@ -49,7 +64,7 @@ fn queue_of(pending: u8, arrived: u8) -> u8
 }
 
 // How many of these arrivals are turned away.
-fn turned_of(pending: u8, arrived: u8) -> u8
+fn away_of(pending: u8, arrived: u8) -> u8
     ensures { λ r. ⌜ r ≡ oneSlot .turns pending arrived ⌝ }
 {
     let room = MOST_PENDING - pending;
@@ -82,7 +97,7 @@ fn turn_away(plan: Plan, pending: [u8; 8], arrivals: &[u8]) -> [u8; 8]
     let mut counts = [0u8; 8];
     let mut i = 0;
     while i < n {
-        counts[i] = turned_of(pending[i], arrivals[i]);
+        counts[i] = away_of(pending[i], arrivals[i]);
         i += 1;
     }
     counts

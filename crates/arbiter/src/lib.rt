@@ -60,7 +60,7 @@ pub fn step_in_place(plan: Plan, arbiter: &mut Arbiter, arrivals: &[u8]) -> Answ
     out.answer
 }
 
-// The step in place on a local that is lent: by value for the caller.
+// The step in place, called on a local that is lent: it gives what `step` gives.
 pub fn step_lent(plan: Plan, arbiter: Arbiter, arrivals: &[u8]) -> Stepped
     ensures { λ r. ⌜ r ≡ stepOf plan arbiter (now (arrivals .entry)) ⌝ }
 {

@@ -1,9 +1,9 @@
 -- Any two answers that a contract of the figures allows are equal: m is a count, there is one largest L, and one least
--- wait.
+-- wait. So a client's waits grow with the waiting number.
 -- Assumes nothing.
 use mathlib.Core.Path.{_≡_, sym, ap, _∙_}
-use Prim.Native.Nat.{ℕ}
-use Rattle.frame.proofs.Scaled.{scaled-one, wait-one}
+use Prim.Native.Nat.{ℕ, _≤_}
+use Rattle.frame.proofs.Scaled.{scaled-one, wait-one, wait-grows}
 use Rattle.plan.specs.declared.Plan.{Plan}
 use Rattle.figures.specs.declared.Figure.{Figure}
 use Rattle.figures.specs.declared.Figures.{Figures}
@@ -12,6 +12,7 @@ use Rattle.figures.specs.declared.Wait.{Wait}
 use Rattle.figures.specs.declared.Wait.the-variants as wait
 use Rattle.figures.specs.Figures.{IsFigure, IsFigures, IsWaitFor}
 use Rattle.figures.proofs.Answers.{given-fine, refused-not-fine, wait-given-fine, wait-refused-not-fine}
+use Rattle.figures.proofs.Answers.{given-waits}
 
 made-alike : (m m′ L L′ : ℕ) → m ≡ m′ → L ≡ L′
     → _≡_ {A = Figure} (record { slots = m; scaled = L }) (record { slots = m′; scaled = L′ })
@@ -44,3 +45,12 @@ module _ (plan : Plan) (c : ℕ) where
   waits-once k (wait.Refused i) (wait.Given b) is is′ =
       absurd (wait-refused-not-fine plan c k i is (wait-given-fine plan c k b is′))
   waits-once k (wait.Refused i) (wait.Refused j) is is′ = ap wait.Refused (is .number ∙ sym (is′ .number))
+
+  -- for crates above: more requests wait as long or longer
+  pub waits-grow : (k k′ r r′ : ℕ) → k ≤ k′ → IsWaitFor plan c k (wait.Given r) → IsWaitFor plan c k′ (wait.Given r′)
+      → r ≤ r′
+  waits-grow k k′ r r′ l is is′ =
+      let x = given-waits plan c k r is in
+      let y = given-waits plan c k′ r′ is′ in
+      let same : x .L ≡ y .L = scaled-one (x .scaled) (y .scaled) in
+      wait-grows l (rw same at (x .least)) (y .least)

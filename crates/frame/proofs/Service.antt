@@ -6,7 +6,7 @@ use native.Mathlib.Nat.{mul-le-mul-left, mul-le-mul-right, mul-pos, le-of-mul-le
 use native.Mathlib.Omega.{arith}
 use lib.ListN.{length, take, drop, getD}
 use lib.Seq.{drop-cons}
-use Rattle.frame.specs.Frame.{within, Frame, Bounded, IsWait}
+use Rattle.frame.specs.Frame.{within, Frame, Bounded}
 use Rattle.frame.specs.Queue.{Rule, left, pending, servedIn}
 use Rattle.frame.specs.Service.{Guaranteed, AlwaysPending}
 use Rattle.frame.proofs.Within.{within-none}
@@ -51,12 +51,12 @@ demand-three rule own most p q a b slots s v xs i j w =
 -- "a request that is k-th in its queue after arrivals", in slot d, "is served within the wait for k, that slot counted
 -- first"
 pub served-in-wait : (rule : Rule) {own : ℕ → ℕ} {f m L : ℕ} → Frame own f m → Bounded own f m L
-    → (s v : ℕ) (xs : List ℕ) (d k r : ℕ) → IsWait f m L k r → 0 < k → k ≤ pending rule own s v xs d → d + r ≤ length xs
+    → (s v : ℕ) (xs : List ℕ) (d k r : ℕ) → L + k * f ≤ m * r → k ≤ pending rule own s v xs d → d + r ≤ length xs
     → k ≤ servedIn rule own s v xs d r
-served-in-wait rule {own} {f} {m} {L} frame bounded s v xs d k r wait k> l fits = by r (wait .enough) fits
+served-in-wait rule {own} {f} {m} {L} frame bounded s v xs d k r enough l fits = by r enough fits
   where
     by : (r : ℕ) → L + k * f ≤ m * r → d + r ≤ length xs → k ≤ servedIn rule own s v xs d r
-    by zero h fits = absurd (omega (arith, stretch-enough frame bounded s 0 k h, within-none own s))
+    by zero h fits = omega (arith, stretch-enough frame bounded s 0 k h, within-none own s)
     by (suc r) h fits =
         let rest = part-length rule own xs (suc d) r (omega arith) in
         let k≤ = stretch-enough frame bounded (s + d) (suc r) k h in

@@ -144,7 +144,7 @@ pub stretch-tested : (x : Client) (own : ℕ → ℕ) (f m s j w : ℕ) (t : Boo
     → w ≡ within own s j → inTime x own f s j ≡ t
 stretch-tested x own f m s j w t e h k = cc
 
--- ---- an accepted plan
+-- ---- an accepted plan, for crates above
 
 pub accepted-owns : (plan : Plan) → Checked plan → Accepted plan → (i : ℕ) → i < plan .n
     → 0 < slotsOf (ownOf plan (i + 1)) (plan .f)

@@ -7,7 +7,7 @@ use frame::inner::next;
 use plan::Client;
 use plan::Plan;
 ghost use mathlib.Core.Path.{_≡_};
-ghost use Prim.Native.Nat.{_-_, _*_, _≤_, _<_};
+ghost use Prim.Native.Nat.{_-_, _*_, _≤_};
 ghost use Rattle.plan.specs.Plan.{clientOf, ownOf};
 ghost use Rattle.judge.specs.Rules.{enough, covers, IsVerdict};
 ghost use Rattle.judge.specs.Judge.{IsJudgement};

@@ -1,5 +1,5 @@
-// Judging: a client's verdict, whether a plan is accepted, and else the first client and its first stretch that show why
-// not. Every plan and number gets an answer; `inner` has the functions for callers that have checked their plan.
+// Judging: a client's verdict, whether a plan is accepted, and else the first client and its first stretch that show
+// why not. Every plan and number gets an answer; `inner` has the functions for callers that have checked their plan.
 pub mod inner; // inner.rt
 
 use figures::inner::check_asked;
@@ -14,7 +14,7 @@ pub enum Verdict {
     Late,
 }
 
-// The first client that is not ok, its verdict and, if late, the first stretch that shows it; 0 and Ok where all are ok.
+// The first client that is not ok, its verdict and, if late, the first stretch that shows it; 0 and Ok where all are.
 pub struct Judgement {
     pub client: usize,
     pub verdict: Verdict,

@@ -3,11 +3,12 @@
 -- Assumes nothing.
 use mathlib.Core.Path.{_≡_, refl, ap, sym}
 use mathlib.Core.List.{List}
+use mathlib.Core.Logic.{_≢_}
 use Prim.Native.Nat.{ℕ, _+_, _%_, _≤_, _<_}
 use native.Mathlib.Nat.{add-mod-right, mod-lt}
 use lib.Dec.{eqb}
 use lib.ListN.{getD}
-use borrow.Author.Tests.{leb-true, le-leb}
+use borrow.Author.Tests.{leb-true, le-leb, eq-eqb, ne-eqb}
 use Rattle.records.specs.Refusal as refusal
 use Rattle.records.specs.declared.Outcome.the-variants.{Fine}
 use Rattle.records.proofs.Checks.{between-true, both-fine, need-fine, range-fine, range-pass, first-fine, first-all}
@@ -15,7 +16,7 @@ use Rattle.records.proofs.Checks.{first-same, one-or-none}
 use Rattle.records.proofs.Lists.{get-padded, padded-same}
 use Rattle.plan.specs.declared.Client.{Client}
 use Rattle.plan.specs.declared.Plan.{Plan}
-use Rattle.plan.specs.Plan.{noClient, clientOf, ownerOf, ownIn, ownOf, Same, used}
+use Rattle.plan.specs.Plan.{noClient, clientOf, ownerOf, isClient, ownIn, ownOf, Same, used}
 use Rattle.plan.specs.Check.{clientCheck, ownerCheck, clientStep, requirementsCheck}
 use Rattle.plan.specs.Check.{ownerStep, ownersCheck, planCheck}
 
@@ -138,9 +139,18 @@ same-check plan other s =
 
 -- ---- a client's slots
 
+pub client-most : (c x : ℕ) → isClient c x ≤ 1
+client-most c x = one-or-none (eqb x c)
+
+pub client-is : (c x : ℕ) → x ≡ c → isClient c x ≡ 1
+client-is c x e = rw (eq-eqb x c e)
+
+pub client-not : (c x : ℕ) → x ≢ c → isClient c x ≡ 0
+client-not c x h = rw (ne-eqb x c h)
+
 pub own-most : (owners : List ℕ) (f c s : ℕ) → ownIn owners f c s ≤ 1
 unfolding ownIn
-own-most owners f c s = one-or-none (eqb (getD owners (s % f) 0) c)
+own-most owners f c s = client-most c (getD owners (s % f) 0)
 
 pub own-round : (owners : List ℕ) (f c s : ℕ) → ownIn owners f c (s + f) ≡ ownIn owners f c s
 unfolding ownIn

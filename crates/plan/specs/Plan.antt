@@ -25,10 +25,14 @@ clientOf plan i = getD (plan .clients) i noClient
 abbrev pub ownerOf : Plan → ℕ → ℕ
 ownerOf plan x = getD (plan .owners) x 0
 
+-- 1 where x is client c, else 0
+abbrev pub isClient : ℕ → ℕ → ℕ
+isClient c x = pick (eqb x c) 1 0
+
 -- the slots of client c where a frame of f slots that repeats has these owners: 1 where slot s, counted on without end,
 -- is its own, else 0
 unfoldable pub ownIn : List ℕ → ℕ → ℕ → ℕ → ℕ
-ownIn owners f c s = pick (eqb (getD owners (s % f) 0) c) 1 0
+ownIn owners f c s = isClient c (getD owners (s % f) 0)
 
 -- the slots of client c of a plan
 abbrev pub ownOf : Plan → ℕ → ℕ → ℕ

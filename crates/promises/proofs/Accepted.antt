@@ -52,9 +52,13 @@ use Rattle.promises.specs.Verdict.{verdictBy}
 
 -- ---- accepted exactly when
 
--- what client i + 1 requires is met by its m and its L: "m × q ≥ p × f" and "L × b ≤ a × m"
+-- client i + 1 has its required rate: "m × q ≥ p × f"
+abbrev pub GetsRate : Plan → ℕ → Type 0
+GetsRate plan i = clientOf plan i .p * plan .f ≤ slotsOf (ownOf plan (i + 1)) (plan .f) * clientOf plan i .q
+
+-- what it requires is met by its m and its L: its rate, and "L × b ≤ a × m"
 pub record Meets (plan : Plan) (i : ℕ) : Type 0 where
-  pub rate : clientOf plan i .p * plan .f ≤ slotsOf (ownOf plan (i + 1)) (plan .f) * clientOf plan i .q
+  pub rate : GetsRate plan i
   pub time : (L : ℕ) → IsScaled (ownOf plan (i + 1)) (plan .f) (slotsOf (ownOf plan (i + 1)) (plan .f)) L
       → L * clientOf plan i .b ≤ clientOf plan i .a * slotsOf (ownOf plan (i + 1)) (plan .f)
 
@@ -84,7 +88,7 @@ accepted-exactly plan f> = (
 
 -- the required latency is one that satisfies Definition 1 on the arbiter's runs
 pub record MeetsDefinition (plan : Plan) (i : ℕ) : Type 0 where
-  pub rate : clientOf plan i .p * plan .f ≤ slotsOf (ownOf plan (i + 1)) (plan .f) * clientOf plan i .q
+  pub rate : GetsRate plan i
   pub time : SatisfiesOf plan i (clientOf plan i .a) (clientOf plan i .b)
 
 meets-by-definition : (plan : Plan) → Checked plan → (i : ℕ) → i < plan .n → Meets plan i ↔ MeetsDefinition plan i

@@ -45,7 +45,7 @@ use Rattle.search.specs.declared.Answer.{Answer}
 use Rattle.search.specs.declared.Answer.the-variants as answer
 use Rattle.search.specs.Search.{searchCheck, sizeCheck, AcceptedIn, SearchedAs}
 use Rattle.search.proofs.Questions.{search-fine}
-use Rattle.arbiter.specs.Step.{ruleOf, servedBy, lessOne, advanced, placeCheck, stepCheck, stepOf}
+use Rattle.arbiter.specs.Step.{ruleFor, servedBy, lessOne, advanced, positionCheck, arrivalsCheck, stepCheck, stepOf}
 use Rattle.promises.specs.Bench.{Schedule, among, tablePlan, searchPlan, little, Question, figure, waiting}
 use Rattle.promises.specs.Bench.{accepted, late, found, none, steps, Right, AllRight, questions}
 use Rattle.promises.proofs.Tests.{allBelow, fineTest, fine-tested, okTest, ok-tested, lateTest}
@@ -311,5 +311,6 @@ pub bench : AllRight questions
 unfolding questions test slotAt scaledOf lackFrom largest lack within waitOf okTest lateTest fineTest noneTest bestTest
     acceptTest everyTable allBelow betterTest lexTest owned enough covers ownIn searchPlan searchCheck sizeCheck
     tablePlan planCheck requirementsCheck ownersCheck clientStep ownerStep clientCheck ownerCheck rangeCheck firstOf
-    firsts onto padded stepTest serviceTest numbersTest stepOf stepCheck placeCheck advanced servedBy lessOne ruleOf
+    firsts onto padded stepTest serviceTest numbersTest stepOf stepCheck positionCheck arrivalsCheck advanced servedBy
+    lessOne ruleFor
 bench = all-right questions refl

@@ -55,9 +55,12 @@ use Rattle.search.proofs.Once.{searched-once}
 use Rattle.search.proofs.Same.{searched-same}
 use Rattle.arbiter.specs.declared.Answer.{Answer as Answered}
 use Rattle.arbiter.specs.declared.Arbiter.{Arbiter}
-use Rattle.arbiter.specs.Step.{countOf, advanced, stepCheck, steppedBy, stepOf, stepNumber, clientIn}
+use Rattle.arbiter.specs.declared.Service.the-variants as service
+use Rattle.arbiter.specs.declared.Stepped.{Stepped}
+use Rattle.arbiter.specs.Step.{countOf, advanced, stepCheck, stepOf, stepNumber, clientServed}
 use Rattle.arbiter.proofs.Questions.{Steps, step-fine, step-pass, step-numbered}
-use Rattle.arbiter.proofs.Slots.{step-number as number-of}
+use Rattle.arbiter.proofs.Slots.{step-number as number-of, either}
+use Rattle.arbiter.proofs.Runs.{advances-so}
 use Rattle.arbiter.proofs.Same.{same-step, answer-unread, count-unread}
 use Rattle.arbiter.proofs.Laws.{step-kept as past-kept, step-none as past-none}
 use Rattle.promises.specs.Trip.{Copied}
@@ -67,11 +70,12 @@ use Rattle.stream.proofs.Offsets.{read-within}
 
 -- ---- any two outcomes coincide
 
--- where the contract is an equation, `r ≡ x`: all of records' and plan's entries, `stream::read`, `reread`
+-- where the contract is an equation, `r ≡ x`: all of records' and plan's entries, `stream::read`, `arbiter::step` and
+-- `step_lent`, `reread`
 pub once : {A : Type 0} (x r r′ : A) → r ≡ x → r′ ≡ x → r ≡ r′
 once x r r′ h h′ = h ∙ sym h′
 
--- where a record is lent, too: `arbiter::step_in_place`; `step` and `step_lent` have an equation
+-- where a record is lent, too: `arbiter::step_in_place`
 pub step-once : (plan : Plan) (arb : Arbiter) (xs : List ℕ) (r r′ : Answered) (now now′ : Arbiter)
     → (r ≡ stepOf plan arb xs .answer) × (now ≡ stepOf plan arb xs .next)
     → (r′ ≡ stepOf plan arb xs .answer) × (now′ ≡ stepOf plan arb xs .next) → (r ≡ r′) × (now ≡ now′)
@@ -220,6 +224,11 @@ search-given f n clients r ok is = by (r .answer) is
     by (answer.Refused k) h =
         refused-fine (searchCheck (idlePlan f n clients)) k (h .0) (search-pass (idlePlan f n clients) ok)
 
+pub step-given : (plan : Plan) (arb : Arbiter) (xs : List ℕ) → Steps plan (arb .position) (length xs)
+    → (client : ℕ) × (stepOf plan arb xs .answer .service ≡ service.Given client)
+unfolding advanced
+step-given plan arb xs ok = (_, ap (λ (r : Stepped). r .answer .service) (advances-so plan arb xs ok))
+
 -- ---- "places past f .. and past n are ignored on the way in": plans that are the same get the same reply
 
 pub check-same : (plan other : Plan) → Same plan other → planCheck plan ≡ planCheck other
@@ -355,18 +364,14 @@ search-refused f n clients r = by (r .answer)
 -- "leaves .. an arbiter record unchanged"
 pub step-refused : (plan : Plan) (arb : Arbiter) (xs : List ℕ)
     → (stepNumber (stepOf plan arb xs .answer .service) ≡ 0 → ⊥)
-    → (clientIn (stepOf plan arb xs .answer .service) ≡ 0)
+    → (clientServed (stepOf plan arb xs .answer .service) ≡ 0)
     × (stepOf plan arb xs .answer .turned ≡ replicate 8 0)
     × (stepOf plan arb xs .next ≡ arb)
-unfolding stepOf advanced
-step-refused plan arb xs h = by (stepCheck plan (arb .position) (length xs)) h
-  where
-    by : (o : Outcome) → (stepNumber (steppedBy o (advanced plan arb xs) arb .answer .service) ≡ 0 → ⊥)
-        → (clientIn (steppedBy o (advanced plan arb xs) arb .answer .service) ≡ 0)
-        × (steppedBy o (advanced plan arb xs) arb .answer .turned ≡ replicate 8 0)
-        × (steppedBy o (advanced plan arb xs) arb .next ≡ arb)
-    by Fine h = absurd (h refl)
-    by (Refused k offset) h = (refl, refl, refl)
+unfolding advanced
+step-refused plan arb xs =
+    either (λ (r : Stepped). (stepNumber (r .answer .service) ≡ 0 → ⊥) → (clientServed (r .answer .service) ≡ 0)
+    × (r .answer .turned ≡ replicate 8 0) × (r .next ≡ arb)) plan arb xs (λ number h. (refl, refl, refl))
+    (λ fine h. absurd (h refl))
 
 kept-by : (o : Outcome) (stream out : List ℕ) → drop (length stream) (bytesBy o stream out) ≡ drop (length stream) out
 kept-by Fine stream out = drop-at stream (drop (length stream) out) (length stream) refl

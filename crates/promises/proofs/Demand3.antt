@@ -1,6 +1,6 @@
 -- Demand 3, and what document 01 says of runs of the arbiter: each client's service on the arbiter's own steps. Each
 -- statement is about a plan's run that is not refused (`Runs`), from any position and any pending counts, with any
--- lists of n arrivals, and about client i + 1 of the plan. What is counted is read off the steps' answers.
+-- lists of n arrivals, and about client i + 1 of the plan.
 -- Assumes nothing.
 use mathlib.Core.Path.{_≡_, sym, ap, _∙_}
 use mathlib.Core.List.{List, []}
@@ -11,14 +11,12 @@ use native.Mathlib.Omega.{arith}
 use lib.ListN.{length, getD, take}
 use lib.Seq.{ext-getD}
 use Rattle.frame.specs.Frame.{within}
-use Rattle.frame.specs.Queue.{mostPending, served}
+use Rattle.frame.specs.Queue.{mostPending}
 use Rattle.frame.specs.Service.{Guaranteed, AlwaysPending}
 use Rattle.frame.proofs.Queue.{conserved, left-room, served-most, alone as queue-alone}
 use Rattle.frame.proofs.Service.{demand-three}
 use Rattle.frame.proofs.Within.{own-mod}
-use Rattle.records.specs.Refusal as refusal
 use Rattle.records.specs.First.{numberOf}
-use Rattle.records.proofs.Refusals.{numbered-fine}
 use Rattle.plan.specs.declared.Plan.{Plan}
 use Rattle.plan.specs.Plan.{clientOf, ownerOf, ownOf}
 use Rattle.plan.proofs.Laws.{plan-fine, plan-pass, own-most}
@@ -30,16 +28,14 @@ use Rattle.figures.proofs.Answers.{wait-given-fine, given-waits}
 use Rattle.judge.specs.Judge.{Accepted}
 use Rattle.judge.proofs.Laws.{accepted-guaranteed}
 use Rattle.arbiter.specs.declared.Arbiter.{Arbiter}
-use Rattle.arbiter.specs.Step.{ruleOf, countOf, stepOf, stepNumber}
-use Rattle.arbiter.specs.Step.{clientIn}
-use Rattle.arbiter.specs.Run.{recordAfter, Runs, servedOf, turnedOf, takenOf, pendingOf, servedInOf}
+use Rattle.arbiter.specs.Step.{ruleOf, countOf, arrivedOf, stepOf, stepNumber, clientServed}
+use Rattle.arbiter.specs.Run.{recordAfter, totalOf, Runs, servedOf, turnedOf, takenOf, pendingOf, servedInOf}
 use Rattle.arbiter.specs.Run.{AlwaysPendingOf, Agree}
 use Rattle.arbiter.proofs.Runs.{mine, mine-at, mine-length, mine-first, runs-first, served-run, turned-run, taken-run}
-use Rattle.arbiter.proofs.Runs.{left-run, pending-run, served-in-run}
-use Rattle.arbiter.proofs.Runs.{steps-at}
-use Rattle.arbiter.proofs.Questions.{Steps, step-pass, step-fine, step-numbered}
+use Rattle.arbiter.proofs.Runs.{left-run, pending-run, served-in-run, steps-at}
+use Rattle.arbiter.proofs.Questions.{step-pass}
 use Rattle.arbiter.proofs.Slots.{step-number, step-named}
-use Rattle.arbiter.proofs.Laws.{rule-lawful, rule-same, run-in-wait}
+use Rattle.arbiter.proofs.Laws.{rule-lawful, agree-rule, step-bounds, taken-rest, run-in-wait}
 
 module _ (plan : Plan) (arb : Arbiter) (xss : List (List ℕ)) (runs : Runs plan arb xss) (i : ℕ) (i< : i < plan .n) where
   -- ---- demand 3
@@ -82,6 +78,11 @@ module _ (plan : Plan) (arb : Arbiter) (xss : List (List ℕ)) (runs : Runs plan
       rw (left-run plan i i< arb xss runs, served-run plan i i< arb xss runs, taken-run plan i i< arb xss runs)
       (conserved (ruleOf plan i) (ownOf plan (i + 1)) (arb .position) (countOf arb i) (mine i xss))
 
+  -- "The rest are turned away": what is taken and what is turned away make up what arrived
+  pub taken-or-turned : takenOf plan i arb xss + turnedOf plan i arb xss
+      ≡ totalOf plan (λ at xs. arrivedOf xs i) arb xss
+  taken-or-turned = taken-rest plan i i< arb xss runs
+
   -- "a request that is k-th in its queue after arrivals is served within the wait for k, that slot counted first"
   pub served-in-time : (k slots : ℕ) → IsWaitFor plan (i + 1) k (wait.Given slots)
       → (d : ℕ) → k ≤ pendingOf plan i arb xss d → d + slots ≤ length xss → k ≤ servedInOf plan i arb xss d slots
@@ -89,7 +90,7 @@ module _ (plan : Plan) (arb : Arbiter) (xss : List (List ℕ)) (runs : Runs plan
       let ok = wait-fine plan (i + 1) k (wait-given-fine plan (i + 1) k slots is) in
       let right = given-waits plan (i + 1) k slots is in
       let frame = frame-of plan (i + 1) (ok .asked .checked .bounds .f-low) in
-      run-in-wait plan i i< arb xss runs frame (right .scaled .bounded) d k slots (right .least) (ok .low) l fits
+      run-in-wait plan i i< arb xss runs frame (right .scaled .bounded) d k slots (right .least .enough) l fits
 
   -- "a pending count of 0 to 255"
   pub count-room : countOf arb i ≤ mostPending → countOf (recordAfter plan arb xss) i ≤ mostPending
@@ -134,7 +135,7 @@ module _ (i : ℕ) (plan other : Plan) (arb arb′ : Arbiter) (xss yss : List (L
         left-run other i i<′ arb′ (take d yss) first′,
         turned-run plan i i< arb (take d xss) first,
         turned-run other i i<′ arb′ (take d yss) first′,
-        rule-same plan other i,
+        agree-rule agree,
         xs,
         agree .position,
         agree .pending,
@@ -146,11 +147,11 @@ module _ (i : ℕ) (plan other : Plan) (arb arb′ : Arbiter) (xss yss : List (L
 
 -- "never in another": a step names the owner of its slot, or nobody
 pub served-its-owner : (plan : Plan) (arb : Arbiter) (xs : List ℕ) (c : ℕ) → 0 < c
-    → clientIn (stepOf plan arb xs .answer .service) ≡ c → ownerOf plan (arb .position) ≡ c
+    → clientServed (stepOf plan arb xs .answer .service) ≡ c → ownerOf plan (arb .position) ≡ c
 served-its-owner plan arb xs c c> e =
     ⊎-elim
-    (λ (h : clientIn (stepOf plan arb xs .answer .service) ≡ 0). absurd (omega arith))
-    (λ (h : clientIn (stepOf plan arb xs .answer .service) ≡ ownerOf plan (arb .position)). sym h ∙ e)
+    (λ (h : clientServed (stepOf plan arb xs .answer .service) ≡ 0). absurd (omega arith))
+    (λ (h : clientServed (stepOf plan arb xs .answer .service) ≡ ownerOf plan (arb .position)). sym h ∙ e)
     (step-named plan arb xs)
 
 -- "none refused": no step of a run is refused exactly when its plan is in bounds, its position below f, and each of its
@@ -166,21 +167,10 @@ refused-nowhere plan arb xss some = (
       step-number plan at (getD xss d [])
       ∙ ap numberOf (step-pass plan (at .position) (length (getD xss d [])) ok),
   λ none.
-      let steps = passed none in
-      let first = steps 0 some in
+      let first = step-bounds plan arb (getD xss 0 []) (none 0 some) in
       record {
         checked = plan-pass plan (first .checked);
         position = first .below;
-        lists = λ d l. steps d l .many;
+        lists = λ d l. step-bounds plan (recordAfter plan arb (take d xss)) (getD xss d []) (none d l) .many;
       },
 )
-  where
-    passed : ((d : ℕ) → d < length xss
-        → stepNumber (stepOf plan (recordAfter plan arb (take d xss)) (getD xss d []) .answer .service) ≡ 0)
-        → (d : ℕ) → d < length xss
-        → Steps plan (recordAfter plan arb (take d xss) .position) (length (getD xss d []))
-    passed none d l =
-        let at = recordAfter plan arb (take d xss) in
-        let numbered = step-numbered refusal.arrivals (omega arith) plan (at .position) (length (getD xss d [])) in
-        let number = sym (step-number plan at (getD xss d [])) ∙ none d l in
-        step-fine plan (at .position) (length (getD xss d [])) (numbered-fine refusal.arrivals _ numbered number)

@@ -1,5 +1,5 @@
--- Tests that compute: whether a client is ok, a table accepted, or the best of all, and whether two steps are one. Each
--- says what its definition says, so that the examples of judging and searching are settled by working them out.
+-- Tests that compute: whether a client is ok, a table accepted, or the best of all, and whether two steps give the
+-- same. Each says what its definition says, so that the examples are settled by working them out.
 -- Assumes nothing.
 use mathlib.Core.Path.{_≡_, refl, sym, ap, _∙_}
 use mathlib.Core.Bool.{Bool, true, false}
@@ -259,7 +259,7 @@ service-tested (service.Given a) (service.Refused b) h = false-true h
 service-tested (service.Refused a) (service.Given b) h = false-true h
 service-tested (service.Refused a) (service.Refused b) h = ap service.Refused (eqb-true a b h)
 
--- r and s say and leave the same
+-- r and s give the same
 unfoldable pub stepTest : Stepped → Stepped → Bool
 stepTest r s =
     pick

@@ -140,8 +140,8 @@ abbrev pub counts : ℕ → ℕ → List ℕ
 counts a b = padded (λ i. pick (eqb i 0) a b) 2 8 0
 
 -- the record at this position, with a and b pending
-abbrev pub at : ℕ → ℕ → ℕ → Arbiter
-at position a b = record { position = position; pending = counts a b }
+abbrev pub holding : ℕ → ℕ → ℕ → Arbiter
+holding position a b = record { position = position; pending = counts a b }
 
 -- a step that serves this client, or 0, with so many turned away, and leaves this record
 abbrev pub serving : ℕ → List ℕ → Arbiter → Stepped
@@ -169,7 +169,7 @@ questions =
     ∷ none 3 2 (requiring 1 3 3 2)
     ∷ none 3 2 (requiring 1 2 2 1)
     ∷ found 4 1 (requiring 1 2 1 1) (0 ∷ 1 ∷ 0 ∷ 1 ∷ [])
-    ∷ steps reportPlan (at 0 255 0) (1 ∷ 0 ∷ []) (serving 1 (counts 1 0) (at 1 254 0))
-    ∷ steps reportPlan (at 3 255 0) (1 ∷ 0 ∷ []) (serving 0 (counts 1 0) (at 4 255 0))
-    ∷ steps reportPlan (at 8 255 0) (1 ∷ 0 ∷ []) (refusedStep refusal.position (at 8 255 0))
+    ∷ steps reportPlan (holding 0 255 0) (1 ∷ 0 ∷ []) (serving 1 (counts 1 0) (holding 1 254 0))
+    ∷ steps reportPlan (holding 3 255 0) (1 ∷ 0 ∷ []) (serving 0 (counts 1 0) (holding 4 255 0))
+    ∷ steps reportPlan (holding 8 255 0) (1 ∷ 0 ∷ []) (refusedStep refusal.position (holding 8 255 0))
     ∷ []

@@ -82,9 +82,9 @@ onto-past f n l d i h =
     rw e
     (rw (length-firsts f n) at (getD-append-add (firsts f n) (drop n l) (i - n) d) ∙ getD-drop n l (i - n) d)
 
-pub within-onto : {A : Type 0} (f : ℕ → A) (n : ℕ) (l : List A) → n ≤ length (onto f n l)
+pub onto-reaches : {A : Type 0} (f : ℕ → A) (n : ℕ) (l : List A) → n ≤ length (onto f n l)
 unfolding onto
-within-onto f n l = omega (arith, length-append (firsts f n) (drop n l), length-firsts f n)
+onto-reaches f n l = omega (arith, length-append (firsts f n) (drop n l), length-firsts f n)
 
 pub onto-same : {A : Type 0} (f g : ℕ → A) (n : ℕ) (l : List A) → ((i : ℕ) → i < n → f i ≡ g i)
     → onto f n l ≡ onto g n l

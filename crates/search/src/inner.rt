@@ -1,6 +1,7 @@
-// The best filling of a plan's idle slots. Whether a client is ok depends on its own slots alone. So each client is judged
-// once on every set of idle slots, and what it needs beside the first of them stands in its tree of needs; `explore`
-// then finds the best filling. The trees are filled from the end, since the nodes below a node stand after it.
+// The best filling of a plan's idle slots. Whether a client is ok depends on its own slots alone. So each client is
+// judged once on every set of idle slots, and what it needs beside the first of them stands in its tree of needs;
+// `explore` then finds the best filling. The trees are filled from the end, since the nodes below a node stand after
+// it.
 use super::MOST_CLIENTS;
 use super::MOST_SLOTS;
 use super::Mended;

@@ -13,7 +13,9 @@ enum-known-checked : tie.Need-enum-known-checked
 enum-known-checked c = search needs
 
 returns : tie.Need-returns
-returns c = step-refused _ _ _ (c .before .before .before .check-step .ensures) (c .before .checked .given .1)
+returns c =
+    let refused = sym (c .before .before .before .check-step .ensures) ∙ c .before .checked .given .1 in
+    sym (step-refused _ _ _ refused)
 
 enum-told : tie.Need-enum-told
 enum-told c = search needs

@@ -5,7 +5,7 @@ use mathlib.Core.Path.{sym, _∙_}
 use native.Mathlib.Omega.{arith}
 use borrow.Author.Needs.{needs}
 use Rattle.arbiter.proofs.Questions.{step-fine, owner-small}
-use Rattle.arbiter.proofs.Slots.{served-most, served-pending, advances}
+use Rattle.arbiter.proofs.Slots.{served-at-most, served-pending, advances}
 use Rattle.arbiter.proofs.inner.advance.Statement.{statement}
 use Rattle.arbiter.proofs.inner.advance.Tie as tie
 
@@ -28,14 +28,16 @@ turn-away-requires c κs =
     (ok .checked .bounds .n-high, ok .many)
 
 served-by-requires : tie.Need-served-by-requires
-served-by-requires c κs = omega (arith, owner-small _ _ _ (step-fine _ _ _ (c .before .before .before .before .before .before .pre)))
+served-by-requires c κs =
+    let small = owner-small _ _ _ (step-fine _ _ _ (c .before .before .before .before .before .before .pre)) in
+    omega (arith, small)
 
 less-one-requires : tie.Need-less-one-requires
 less-one-requires c κs =
     let small = owner-small _ _ _ (step-fine _ _ _ (c .before .before .before .before .before .before .before .pre)) in
     let owner = c .before .before .before .wide .result in
     let counts = c .before .before .join .result in (
-      omega (arith, c .served-by .ensures, served-most owner counts, small),
+      omega (arith, c .served-by .ensures, served-at-most owner counts, small),
       λ i e. served-pending owner i counts (sym (c .served-by .ensures) ∙ e),
     )
 

@@ -9,7 +9,7 @@ use borrow.Author.Needs.{needs}
 use Rattle.frame.specs.Queue.{oneSlot, queue}
 use Rattle.records.specs.Pieces.{onto}
 use Rattle.records.proofs.Lists.{onto-none, onto-more}
-use Rattle.arbiter.specs.Step.{ruleOf}
+use Rattle.arbiter.specs.Step.{ruleFor}
 use Rattle.arbiter.proofs.inner.join.Statement.{statement}
 use Rattle.arbiter.proofs.inner.join.Tie as tie
 
@@ -49,7 +49,7 @@ loop-again c =
     (omega arith, rw (loop .inv .1, c .queue-of .ensures) (onto-more _ (loop .i) _ (omega (arith, eight))))
 
 returns : tie.Need-returns Inv-loop μ-loop
-unfolding ruleOf
+unfolding ruleFor
 returns c =
     let e : c .before .loop .i ≡ c .before .before .before .args .plan .n = omega arith in
     rw e at (c .before .loop .inv .1)

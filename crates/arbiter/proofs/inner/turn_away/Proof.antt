@@ -9,7 +9,7 @@ use borrow.Author.Needs.{needs}
 use Rattle.frame.specs.Queue.{oneSlot}
 use Rattle.records.specs.Pieces.{padded}
 use Rattle.records.proofs.Lists.{padded-none, padded-more}
-use Rattle.arbiter.specs.Step.{ruleOf}
+use Rattle.arbiter.specs.Step.{ruleFor}
 use Rattle.arbiter.proofs.inner.turn_away.Statement.{statement}
 use Rattle.arbiter.proofs.inner.turn_away.Tie as tie
 
@@ -23,14 +23,14 @@ abbrev μ-loop : tie.MeasureT-loop
 loop-holds : tie.Need-loop-holds Inv-loop μ-loop
 loop-holds c = (omega arith, padded-none _ 8 0)
 
-array-read-turned-of : tie.Need-array-read-turned-of Inv-loop μ-loop
-array-read-turned-of c = search needs
+array-read-away-of : tie.Need-array-read-away-of Inv-loop μ-loop
+array-read-away-of c = search needs
 
-shared-slice-read-turned-of : tie.Need-shared-slice-read-turned-of Inv-loop μ-loop
-shared-slice-read-turned-of c = search needs
+shared-slice-read-away-of : tie.Need-shared-slice-read-away-of Inv-loop μ-loop
+shared-slice-read-away-of c = search needs
 
-turned-of-requires : tie.Need-turned-of-requires Inv-loop μ-loop
-turned-of-requires c κs = search needs
+away-of-requires : tie.Need-away-of-requires Inv-loop μ-loop
+away-of-requires c κs = search needs
 
 array-write-counts : tie.Need-array-write-counts Inv-loop μ-loop
 array-write-counts c = search needs
@@ -44,10 +44,10 @@ loop-less c = search needs
 loop-again : tie.Need-loop-again Inv-loop μ-loop
 loop-again c =
     let loop = c .before .before .before .loop in
-    (omega arith, rw (loop .inv .1, c .turned-of .ensures) (padded-more _ (loop .i) 8 0 (omega arith)))
+    (omega arith, rw (loop .inv .1, c .away-of .ensures) (padded-more _ (loop .i) 8 0 (omega arith)))
 
 returns : tie.Need-returns Inv-loop μ-loop
-unfolding ruleOf
+unfolding ruleFor
 returns c =
     let e : c .before .loop .i ≡ c .before .before .before .args .plan .n = omega arith in
     rw e at (c .before .loop .inv .1)
@@ -59,9 +59,9 @@ turn-away-spec =
     Inv-loop
     μ-loop
     loop-holds
-    array-read-turned-of
-    shared-slice-read-turned-of
-    turned-of-requires
+    array-read-away-of
+    shared-slice-read-away-of
+    away-of-requires
     array-write-counts
     add-i
     loop-less
