@@ -32,15 +32,17 @@ pub rule-lawful : (plan : Plan) (i : ℕ) → Lawful (ruleOf plan i)
 unfolding ruleFor
 rule-lawful plan i = one-slot-lawful
 
+-- a client that is the same has the same rule
 pub same-rule : (plan other : Plan) → Same plan other → (i : ℕ) → i < plan .n → ruleOf plan i ≡ ruleOf other i
 same-rule plan other same i l = ap ruleFor (same .clients i l)
 
+-- and so has one of which two runs agree
 pub agree-rule : {i : ℕ} {plan other : Plan} {arb arb′ : Arbiter} {xss yss : List (List ℕ)}
     → Agree i plan other arb arb′ xss yss → ruleOf plan i ≡ ruleOf other i
 unfolding ruleFor
 agree-rule agree = refl
 
--- what is taken and what is turned away make up what arrived
+-- what is taken and what is turned away make up what arrives
 pub rule-rest : (plan : Plan) (i v x : ℕ) → ruleOf plan i .takes v x + ruleOf plan i .turns v x ≡ x
 unfolding ruleFor
 rule-rest plan i v x = one-slot-rest v x
@@ -63,7 +65,7 @@ module _ (plan : Plan) (arb : Arbiter) (xs : List ℕ) (ok : Steps plan (arb .po
         let here = place-itself (plan .f) s (ok .below) in
         omega (arith, step-left plan arb xs ok i i< s here, step-served plan arb xs ok i i< s here)
 
-    -- what is turned away and what is taken make up what arrived
+    -- what is taken and what is turned away make up what arrives, so that no more is taken
     pub step-rest : ruleOf plan i .takes (countOf arb i) (arrivedOf xs i)
         + getD (stepOf plan arb xs .answer .turned) i 0 ≡ arrivedOf xs i
     step-rest = rw (step-turned plan arb xs ok i i<) (rule-rest plan i (countOf arb i) (arrivedOf xs i))
@@ -112,7 +114,7 @@ taken-rest plan i i< arb (xs ∷ xss) runs =
     omega (arith, here, taken-rest plan i i< (stepOf plan arb xs .next) xss (runs-on plan arb xs xss runs))
 
 -- "a request that is k-th in its queue after arrivals", in slot d, "is served within the wait for k, that slot counted
--- first"
+-- first": within any r slots with L + k × f ≤ m × r, of which the wait is the least
 pub run-in-wait : (plan : Plan) (i : ℕ) → i < plan .n → (arb : Arbiter) (xss : List (List ℕ)) → Runs plan arb xss
     → {m L : ℕ} → Frame (ownOf plan (i + 1)) (plan .f) m → Bounded (ownOf plan (i + 1)) (plan .f) m L
     → (d k r : ℕ) → L + k * plan .f ≤ m * r → k ≤ pendingOf plan i arb xss d → d + r ≤ length xss

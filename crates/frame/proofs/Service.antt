@@ -49,7 +49,7 @@ demand-three rule own most p q a b slots s v xs i j w =
 -- ---- the wait
 
 -- "a request that is k-th in its queue after arrivals", in slot d, "is served within the wait for k, that slot counted
--- first"
+-- first": within any r slots with L + k × f ≤ m × r, of which the wait is the least
 pub served-in-wait : (rule : Rule) {own : ℕ → ℕ} {f m L : ℕ} → Frame own f m → Bounded own f m L
     → (s v : ℕ) (xs : List ℕ) (d k r : ℕ) → L + k * f ≤ m * r → k ≤ pending rule own s v xs d → d + r ≤ length xs
     → k ≤ servedIn rule own s v xs d r
