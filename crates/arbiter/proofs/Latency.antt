@@ -63,10 +63,10 @@ module _ (plan : Plan) (i : ℕ) (i< : i < plan .n) where
 
   satisfies-runs : (x y : ℕ)
       → Satisfies (ruleOf plan i) (ownOf plan (i + 1)) (plan .f) (slotsIn plan i) x y → SatisfiesOf plan i x y
-  satisfies-runs x y sat arb xss held runs busy =
-      let arrivals : Arrivals (mine i xss) = λ d. rw (mine-at i d xss) (held .arrivals d i) in
+  satisfies-runs x y sat arb xss typed runs busy =
+      let arrivals : Arrivals (mine i xss) = λ d. rw (mine-at i d xss) (typed .arrivals d i) in
       rw (served-run plan i i< arb xss runs, ← mine-length i xss)
-      (sat (arb .position) (countOf arb i) (mine i xss) (held .counts i) arrivals one-busy)
+      (sat (arb .position) (countOf arb i) (mine i xss) (typed .counts i) arrivals one-busy)
     where
       one-busy : Busy (ruleOf plan i) (ownOf plan (i + 1)) (plan .f) (slotsIn plan i) (arb .position) (countOf arb i)
           (mine i xss)
@@ -90,9 +90,9 @@ module _ (plan : Plan) (i : ℕ) (i< : i < plan .n) where
           lists = spread-long (plan .n) xs;
         }
 
-    alike-held : v ≤ mostPending → Arrivals xs → Typed (alike s v) (spread (plan .n) xs)
+    alike-typed : v ≤ mostPending → Arrivals xs → Typed (alike s v) (spread (plan .n) xs)
     unfolding alike
-    alike-held v≤ arrivals =
+    alike-typed v≤ arrivals =
         record {
           eight = length-replicate 8 v;
           counts = λ k. same-most 8 v mostPending k v≤;
@@ -126,7 +126,7 @@ module _ (plan : Plan) (i : ℕ) (i< : i < plan .n) where
       → Satisfies (ruleOf plan i) (ownOf plan (i + 1)) (plan .f) (slotsIn plan i) x y
   runs-satisfy checked x y sat s v xs v≤ arrivals busy =
       rw (alike-served checked s v xs, spread-length (plan .n) xs) at
-      (sat (alike s v) (spread (plan .n) xs) (alike-held checked s v xs v≤ arrivals)
+      (sat (alike s v) (spread (plan .n) xs) (alike-typed checked s v xs v≤ arrivals)
       (alike-runs checked s v xs) (alike-busy checked s v xs busy))
 
   -- ---- so L/m is the latency of the arbiter's runs

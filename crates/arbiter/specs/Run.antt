@@ -87,7 +87,8 @@ module _ (plan : Plan) (i : ℕ) where
   abbrev pub slotsIn : ℕ
   slotsIn = slotsOf (ownOf plan (i + 1)) (plan .f)
 
-  -- Section III: a busy period, in which the client "requests at least as much service as it has been allocated"
+  -- Section III: a busy period, in which the client "requests at least as much service as it has been allocated": after
+  -- each number k of slots, what was pending and what was taken make at least m/f × k
   abbrev pub BusyOf : Arbiter → List (List ℕ) → Type 0
   BusyOf arb xss = (k : ℕ) → k ≤ length xss → slotsIn * k ≤ plan .f * (countOf arb i + takenOf plan i arb (take k xss))
 
