@@ -25,18 +25,6 @@ guaranteed-by f (suc m) p q a b j w f> rate time =
     le-of-mul-le-mul-left {k = suc m}
     (omega (arith, mul-le-mul-left p time, mul-le-mul-right (b * w) rate)) (omega arith)
 
-module _ {own : ℕ → ℕ} {f m L : ℕ} (frame : Frame own f m) (bounded : Bounded own f m L) where
-  -- "enough rate when m × q ≥ p × f, and .. in time when L × b ≤ a × m": then every stretch has p/q × (j − a/b) slots
-  pub stretch-guaranteed : (p q a b : ℕ) → p * f ≤ m * q → L * b ≤ a * m → (s j : ℕ)
-      → Guaranteed p q a b j (within own s j)
-  stretch-guaranteed p q a b rate late s j =
-      guaranteed-by f m p q a b j (within own s j) (frame .f>) rate
-      (omega (arith, late, mul-le-mul-left b (bounded .bound s j)))
-
-  -- so many slots that L + k × f ≤ m × j have k of the client's among them
-  pub stretch-enough : (s j k : ℕ) → L + k * f ≤ m * j → k ≤ within own s j
-  stretch-enough s j k h = le-of-mul-le-mul-left {k = f} (omega (arith, h, bounded .bound s j)) (frame .f>)
-
 -- demand 3 for one client: where every stretch has its slots, each run of consecutive slots with a request pending in
 -- each has its service
 pub demand-three : (rule : Rule) (own : ℕ → ℕ) → ((s : ℕ) → own s ≤ 1) → (p q a b : ℕ)
@@ -47,6 +35,12 @@ demand-three rule own most p q a b slots s v xs i j w =
     rw (served-within rule own most s v xs i j w) (slots (s + i) j)
 
 -- ---- the wait
+
+-- so many slots that L + k × f ≤ m × j have k of the client's among them
+stretch-enough : {own : ℕ → ℕ} {f m L : ℕ} → Frame own f m → Bounded own f m L → (s j k : ℕ) → L + k * f ≤ m * j
+    → k ≤ within own s j
+stretch-enough {own} {f} {m} {L} frame bounded s j k h =
+    le-of-mul-le-mul-left {k = f} (omega (arith, h, bounded .bound s j)) (frame .f>)
 
 -- "a request that is k-th in its queue after arrivals", in slot d, "is served within the wait for k, that slot counted
 -- first": within any r slots with L + k × f ≤ m × r, of which the wait is the least

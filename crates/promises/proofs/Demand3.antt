@@ -13,7 +13,7 @@ use lib.Seq.{ext-getD}
 use Rattle.frame.specs.Frame.{within}
 use Rattle.frame.specs.Queue.{mostPending}
 use Rattle.frame.specs.Service.{Guaranteed, AlwaysPending}
-use Rattle.frame.proofs.Queue.{conserved, left-room, served-most, alone as queue-alone}
+use Rattle.frame.proofs.Queue.{conserved, left-room, served-part, served-most, alone as queue-alone}
 use Rattle.frame.proofs.Service.{demand-three}
 use Rattle.frame.proofs.Within.{own-mod}
 use Rattle.records.specs.First.{numberOf}
@@ -59,6 +59,20 @@ module _ (plan : Plan) (arb : Arbiter) (xss : List (List ℕ)) (runs : Runs plan
       rw (served-in-run plan i i< arb xss runs d j (always .fits))
       (demand-three (ruleOf plan i) (ownOf plan (i + 1)) most _ _ _ _ slots (arb .position) (countOf arb i) (mine i xss)
       d j (one-pending d j always))
+
+  -- what it is served in the first d slots and in the j slots from slot d on is what it is served in d + j slots
+  pub served-parts : (d j : ℕ) → d + j ≤ length xss
+      → servedOf plan i arb (take (d + j) xss) ≡ servedOf plan i arb (take d xss) + servedInOf plan i arb xss d j
+  served-parts d j fits =
+      rw (
+        served-run plan i i< arb (take (d + j) xss) (runs-first plan arb xss (d + j) runs),
+        served-run plan i i< arb (take d xss) (runs-first plan arb xss d runs),
+        served-in-run plan i i< arb xss runs d j fits,
+        mine-first i (d + j) xss,
+        mine-first i d xss,
+      )
+      (served-part (ruleOf plan i) (ownOf plan (i + 1)) (arb .position) (countOf arb i) (mine i xss) d j
+      (omega (arith, fits, mine-length i xss)))
 
   -- "It is served at most once in a slot it owns, and never in another": in any j slots of a run, at most as often as
   -- it owns one of them; a single slot is j 1
