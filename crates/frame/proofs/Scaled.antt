@@ -1,4 +1,5 @@
--- The scaled latency L and the wait: there is exactly one of each, and starts and lengths below f suffice to find L.
+-- The scaled latency L and the wait: there is exactly one of each, starts and lengths below f suffice to find L, and
+-- the wait grows with the requests.
 -- Assumes nothing.
 use mathlib.Core.Path.{_≡_, refl, ap, subst}
 use Prim.Native.Nat.{ℕ, zero, suc, _+_, _-_, _*_, _/_, _%_, _≤_, _<_, max}

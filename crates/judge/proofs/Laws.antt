@@ -1,7 +1,7 @@
 -- Laws of the two rules, and of judging client after client. Judging rests on one law of the rule of one stretch,
 -- `covers-round`: a whole frame more keeps a stretch in time. So starts and lengths below f suffice, and the first
--- stretch that is late lies in the frame. A client that is ok has demand 3's inequality in every stretch. And every
--- stretch is in time exactly when L × b ≤ a × m, so that the verdict and the figures agree.
+-- stretch that is late lies in the frame. A client that is ok has demand 3's inequality in every stretch, and owns a
+-- slot. And every stretch is in time exactly when L × b ≤ a × m, so that the verdict and the figures agree.
 -- Assumes nothing.
 use mathlib.Core.Path.{_≡_, refl, sym, ap, _∙_, subst}
 use mathlib.Core.Bool.{Bool, true, false}

@@ -76,7 +76,7 @@ pub data Question : Type 0 where
   -- a step of the arbiter from this record, with these arrivals: what it gives
   steps : Plan → Arbiter → List ℕ → Stepped → Question
 
--- every answer that the contract allows is this one, and no refusal
+-- every answer that the contract allows is this one; only that of a step may be a refusal
 abbrev pub Right : Question → Type 0
 Right (figure t m L) =
     (r : Figures) → IsFigures (tablePlan little t) 1 r

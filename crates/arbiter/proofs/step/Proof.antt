@@ -1,8 +1,8 @@
 -- `arbiter::step` meets its contract: the checks decide where they refuse, else the slot's work is the answer.
 -- Assumes nothing.
 use mathlib.Core.Path.{sym, _∙_}
-use Rattle.arbiter.proofs.Slots.{step-refused, step-advances}
 use borrow.Author.Needs.{needs}
+use Rattle.arbiter.proofs.Slots.{step-refused, step-advances}
 use Rattle.arbiter.proofs.step.Statement.{statement}
 use Rattle.arbiter.proofs.step.Tie as tie
 

@@ -1,8 +1,8 @@
 -- `arbiter::inner::served_by` meets its contract: a slot serves its owner where that has a request pending.
 -- Assumes nothing.
 use native.Mathlib.Omega.{arith}
-use Rattle.arbiter.proofs.Slots.{served-idle, served-owner, served-nobody}
 use borrow.Author.Needs.{needs}
+use Rattle.arbiter.proofs.Slots.{served-idle, served-owner, served-nobody}
 use Rattle.arbiter.proofs.inner.served_by.Statement.{statement}
 use Rattle.arbiter.proofs.inner.served_by.Tie as tie
 
