@@ -1,0 +1,59 @@
+-- `text::put_refusal` meets its contract: words and numbers put one after the other, with room for all.
+-- Assumes nothing.
+use borrow.Author.Needs.{needs}
+use Rattle.records.proofs.Puts.{then}
+use Rattle.text.specs.Text.{refusalLine}
+use Rattle.text.proofs.Laws.{front-of}
+use Rattle.text.proofs.put_refusal.Statement.{statement}
+use Rattle.text.proofs.put_refusal.Tie as tie
+use Rattle.text.proofs.put_refusal.Reads as reads
+use Rattle.text.proofs.put_refusal.Lts as lts
+use Rattle.text.proofs.inner.put.Reads as put-reads
+use Rattle.text.proofs.inner.put_decimal.Reads as put-decimal-reads
+
+slice-aggregate-put : tie.Need-slice-aggregate-put
+slice-aggregate-put c = search needs
+
+put-requires : tie.Need-put-requires
+put-requires c κs = search needs
+
+put-decimal-requires : tie.Need-put-decimal-requires
+put-decimal-requires c κs = search needs
+
+slice-aggregate-put-2 : tie.Need-slice-aggregate-put-2
+slice-aggregate-put-2 c = search needs
+
+put-requires-2 : tie.Need-put-requires-2
+put-requires-2 c κs = search needs
+
+put-decimal-requires-2 : tie.Need-put-decimal-requires-2
+put-decimal-requires-2 c κs = search needs
+
+slice-aggregate-put-3 : tie.Need-slice-aggregate-put-3
+slice-aggregate-put-3 c = search needs
+
+put-requires-3 : tie.Need-put-requires-3
+put-requires-3 c κs = search needs
+
+returns : tie.Need-returns
+unfolding refusalLine
+returns c =
+    let at-put2 = c .before .before .before .before .before in
+    let at-put = at-put2 .before .before .before .before .before in
+    let number = then (at-put .put .ensures) (at-put2 .before .before .before .put-decimal .ensures .0) in
+    let offset = then (then number (at-put2 .put2 .ensures)) (c .before .before .before .put-decimal2 .ensures .0) in
+    (then offset (c .put3 .ensures), front-of (c .put3 .result) (c .put3 .last .0) (search needs))
+
+pub put-refusal-spec : {M : Type 1} → statement M
+put-refusal-spec =
+    tie.close
+    (tie.spec
+    slice-aggregate-put
+    put-requires
+    put-decimal-requires
+    slice-aggregate-put-2
+    put-requires-2
+    put-decimal-requires-2
+    slice-aggregate-put-3
+    put-requires-3
+    returns)

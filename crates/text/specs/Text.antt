@@ -1,0 +1,37 @@
+-- Text as bytes: quoted words, numbers, and the one line of a refused read (document 01, Programs).
+use mathlib.Core.List.{List, [], _∷_, _++_}
+use Prim.Native.Nat.{ℕ, zero, suc, _+_, _/_, _%_, _≤_}
+use Prim.Native.Char.{code}
+use Prim.Native.String.{String}
+use Prim.Native.String as str
+use mathlib.Core.Path.{_≡_}
+use lib.Dec.{ltb}
+use lib.ListN.{length, take}
+use Rattle.records.specs.First.{pick}
+
+-- the bytes of a quoted text of ASCII
+abbrev pub bytes : String → List ℕ
+bytes str.[] = []
+bytes (str._∷_ c s) = code c ∷ bytes s
+
+-- the byte of a digit, 0 to 9
+abbrev pub digit : ℕ → ℕ
+digit d = 48 + d
+
+-- x in decimal, where it has at most k digits
+unfoldable pub decimal : ℕ → ℕ → List ℕ
+decimal zero x = []
+decimal (suc k) x = pick (ltb x 10) (digit x ∷ []) (decimal k (x / 10) ++ (digit (x % 10) ∷ []))
+
+-- x in decimal, "without sign or leading zeros"; it has at most x + 1 digits
+unfoldable pub decimalOf : ℕ → List ℕ
+decimalOf x = decimal (suc x) x
+
+-- "A refused read writes one line, as `refusal 5 at 0`"
+unfoldable pub refusalLine : ℕ → ℕ → List ℕ
+refusalLine number offset =
+    bytes "refusal " ++ decimalOf number ++ bytes " at " ++ decimalOf offset ++ bytes "\n"
+
+-- the first r bytes of out can be lent as `&out[..r]`: what the kit asks of a program that does so
+abbrev pub Front : ℕ → List ℕ → Type 0
+Front r out = (r ≤ length out) × (r ≡ length (take r out))
