@@ -27,7 +27,7 @@ use Rattle.stream.specs.Write.{streamOf}
 use Rattle.stream.specs.declared.Reading.{Reading}
 use Rattle.stream.proofs.Lengths.{length-stream, stream-sizes}
 use Rattle.stream.proofs.ReadBack.{read-back as stream-read-back}
-use Rattle.stream.proofs.WrittenBack.{written-back as stream-written-back, plan-right}
+use Rattle.stream.proofs.Answers.{rewritten, reading-checked}
 use Rattle.figures.specs.declared.Figure.{Figure}
 use Rattle.figures.specs.declared.Figures.the-variants as figures
 use Rattle.figures.specs.declared.Wait.the-variants as wait
@@ -42,22 +42,18 @@ use Rattle.promises.proofs.Demand1.{read-number, check-number}
 
 -- ---- plan files
 
--- what a read that is not refused gives
-fine : (s : List ℕ) → numberOf (readOf s .outcome) ≡ 0 → readCheck s ≡ Fine
+-- a read that is not refused
+given : (s : List ℕ) → numberOf (readOf s .outcome) ≡ 0 → readOf s .outcome ≡ Fine
 unfolding readOf
-fine s h = numbered-fine 11 (readCheck s) (read-number s) h
-
-given : (s : List ℕ) → numberOf (readOf s .outcome) ≡ 0 → readOf s .plan ≡ planOf s
-unfolding readOf
-given s h = ap (λ (o : Outcome). planIf o (planOf s)) (fine s h)
+given s h = numbered-fine 11 (readCheck s) (read-number s) h
 
 -- what is read is written back byte for byte
 pub written-back : (s : List ℕ) → Bytes s → numberOf (readOf s .outcome) ≡ 0 → streamOf (readOf s .plan) ≡ s
-written-back s b h = rw (given s h) (stream-written-back s b (fine s h))
+written-back s b h = rewritten s b refl (given s h)
 
 -- every plan that is read passes the checks
 pub read-checked : (s : List ℕ) → numberOf (readOf s .outcome) ≡ 0 → planCheck (readOf s .plan) ≡ Fine
-read-checked s h = rw (given s h) (plan-right s (fine s h))
+read-checked s h = reading-checked s (readOf s) refl (given s h)
 
 -- what is written is read back: nothing is refused, and the plan is the same, with zeros past f and n
 pub record ReadBack (plan : Plan) (r : Reading) : Type 0 where

@@ -25,29 +25,24 @@ use Rattle.stream.specs.declared.Reading.{Reading}
 use Rattle.stream.specs.declared.Written.{Written}
 use Rattle.stream.specs.declared.Written.the-variants as written
 use Rattle.stream.proofs.Lengths.{stream-sizes}
-use Rattle.stream.proofs.WrittenBack.{plan-right}
+use Rattle.stream.proofs.Answers.{reading-found, reading-checked}
 use Rattle.promises.specs.Trip.{copyCheck, Copied, rereadOf}
 
 -- ---- read, then written: a is what the read gave
-
-found : (s : List ℕ) (a : Reading) (o : Outcome) → a ≡ readOf s → a .outcome ≡ o → readCheck s ≡ o
-unfolding readOf
-found s a o e h = ap (λ (x : Reading). x .outcome) (sym e) ∙ h
 
 pub copy-refused : (s out : List ℕ) (a : Reading) (k offset : ℕ) → a ≡ readOf s → a .outcome ≡ outcome.Refused k offset
     → Copied s out (written.Refused k) out
 unfolding copyCheck
 copy-refused s out a k offset e h =
-    let q = found s a (outcome.Refused k offset) e h in
+    let q = reading-found s a (outcome.Refused k offset) e h in
     record { answer = rw q; bytes = rw q }
 
 pub copied : (s out : List ℕ) (a : Reading) (r : Written) (now : List ℕ) → a ≡ readOf s → Rewritten s a
     → a .outcome ≡ outcome.Fine → Wrote (a .plan) out r now → Copied s out r now
-unfolding copyCheck writeCheck writtenOf bytesOf readOf
+unfolding copyCheck writeCheck writtenOf bytesOf
 copied s out a r now e back h w =
-    let q : readCheck s ≡ outcome.Fine = found s a outcome.Fine e h in
-    let p : a .plan ≡ planOf s = ap (λ (x : Reading). x .plan) e ∙ ap (λ (o : Outcome). planIf o (planOf s)) q in
-    let ok : planCheck (a .plan) ≡ outcome.Fine = rw p (plan-right s q) in
+    let q = reading-found s a outcome.Fine e h in
+    let ok = reading-checked s a e h in
     let t : streamOf (a .plan) ≡ s = back h in
     record { answer = w .answer ∙ rw (ok, t, q); bytes = w .bytes ∙ rw (ok, t, q) }
 

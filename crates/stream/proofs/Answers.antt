@@ -19,7 +19,7 @@ use Rattle.stream.specs.Trip.{Rewritten, Reread, Held}
 use Rattle.stream.specs.Write.{streamOf, writeCheck, writtenBy, writtenOf, bytesBy, bytesOf, Wrote}
 use Rattle.stream.specs.declared.Reading.{Reading}
 use Rattle.stream.specs.declared.Written.the-variants as written
-use Rattle.stream.proofs.WrittenBack.{written-back}
+use Rattle.stream.proofs.WrittenBack.{written-back, plan-right}
 use Rattle.stream.proofs.ReadBack.{read-back}
 
 -- ---- reading: v is what the checks found, plan the plan given
@@ -36,13 +36,24 @@ read-refused s {v} {plan} {k} {offset} e h p =
     let q : readCheck s ≡ outcome.Refused k offset = sym e ∙ h in
     rw (q, h, p)
 
+-- what the checks found is the outcome that was given
+pub reading-found : (s : List ℕ) (r : Reading) (o : Outcome) → r ≡ readOf s → r .outcome ≡ o → readCheck s ≡ o
+unfolding readOf
+reading-found s r o e h = ap (λ (x : Reading). x .outcome) (sym e) ∙ h
+
+-- a plan that is read is the stream's, and passes the plan's checks
+pub reading-plan : (s : List ℕ) (r : Reading) → r ≡ readOf s → r .outcome ≡ outcome.Fine → r .plan ≡ planOf s
+unfolding readOf
+reading-plan s r e h =
+    ap (λ (x : Reading). x .plan) e ∙ ap (λ (o : Outcome). planIf o (planOf s)) (reading-found s r outcome.Fine e h)
+
+pub reading-checked : (s : List ℕ) (r : Reading) → r ≡ readOf s → r .outcome ≡ outcome.Fine
+    → planCheck (r .plan) ≡ outcome.Fine
+reading-checked s r e h = rw (reading-plan s r e h) (plan-right s (reading-found s r outcome.Fine e h))
+
 -- a stream of bytes that is read is written back
 pub rewritten : (s : List ℕ) {r : Reading} → Bytes s → r ≡ readOf s → Rewritten s r
-unfolding readOf
-rewritten s {r} b e h =
-    let q : readCheck s ≡ outcome.Fine = ap (λ (x : Reading). x .outcome) (sym e) ∙ h in
-    let p : r .plan ≡ planOf s = ap (λ (x : Reading). x .plan) e ∙ ap (λ (o : Outcome). planIf o (planOf s)) q in
-    rw p (written-back s b q)
+rewritten s {r} b e h = rw (reading-plan s r e h) (written-back s b (reading-found s r outcome.Fine e h))
 
 -- ---- writing: r is the answer, now the lent output after
 

@@ -1,4 +1,4 @@
--- Laws of decimal numbers: their digits one by one, and how many there are; and of a text that is put byte by byte.
+-- Laws of text: a number's digits one by one, and how many there are; a text that is put byte by byte, or line by line.
 -- Assumes nothing.
 use mathlib.Core.Path.{_≡_, refl, ap, sym, _∙_}
 use mathlib.Core.Bool.{Bool, true, false}
@@ -11,12 +11,12 @@ use native.Mathlib.Omega.{arith}
 use borrow.Author.Tests.{lt-ltb, le-ltb}
 use lib.Dec.{ltb}
 use lib.ListN.{length, take, getD, length-append}
-use lib.Seq.{take-suc, length-take-le}
+use lib.Seq.{sets, take-suc, length-take-le}
 use Rattle.records.specs.First.{pick}
 use Rattle.records.specs.Put.{Put}
 use Rattle.records.proofs.Checks.{below-or-not}
-use Rattle.records.proofs.Puts.{then}
-use Rattle.text.specs.Text.{digit, decimal, decimalOf, Front}
+use Rattle.records.proofs.Puts.{none, then}
+use Rattle.text.specs.Text.{digit, decimal, decimalOf, Lines, Puts, Front}
 
 -- ---- digits
 
@@ -90,6 +90,46 @@ twenty-most x l = digits-most 19 x (lt-trans l below)
 pub then-byte : {o₀ o₁ o₂ : List ℕ} {a₀ a₁ a₂ : ℕ} (text : List ℕ) (i : ℕ) → i < length text
     → Put o₀ a₀ (take i text) o₁ a₁ → Put o₁ a₁ (getD text i 0 ∷ []) o₂ a₂ → Put o₀ a₀ (take (i + 1) text) o₂ a₂
 then-byte text i l p q = rw (add-one, take-suc text i 0 l) (then p q)
+
+-- ---- line by line
+
+pub lines-none : (P : ℕ → List ℕ → Type 0) → Lines P 0 []
+unfolding Lines
+lines-none P = refl
+
+pub lines-more : (P : ℕ → List ℕ → Type 0) (n : ℕ) (front line : List ℕ) → Lines P n front → P n line
+    → Lines P (n + 1) (front ++ line)
+unfolding Lines
+lines-more P n front line lines last = rw add-one (front, line, (lines, last, refl))
+
+-- no line put, and one turn of the loop that puts lines
+pub puts-none : (P : ℕ → List ℕ → Type 0) (out : List ℕ) (at : ℕ) → Puts (Lines P 0) out at out at
+puts-none P out at = record { text = []; is = lines-none P; put = none out at }
+
+pub then-line : {o₀ o₁ o₂ : List ℕ} {a₀ a₁ a₂ : ℕ} (P : ℕ → List ℕ → Type 0) (n : ℕ) → Puts (Lines P n) o₀ a₀ o₁ a₁
+    → Puts (P n) o₁ a₁ o₂ a₂ → Puts (Lines P (n + 1)) o₀ a₀ o₂ a₂
+then-line P n p q =
+    record { text = p .text ++ q .text; is = lines-more P n (p .text) (q .text) (p .is) (q .is); put = then (p .put) (q .put) }
+
+-- where each line is one text, so are all
+pub lines-once : (P : ℕ → List ℕ → Type 0) → ((i : ℕ) (a b : List ℕ) → P i a → P i b → a ≡ b) → (n : ℕ) (a b : List ℕ)
+    → Lines P n a → Lines P n b → a ≡ b
+unfolding Lines
+lines-once P one zero a b e h = e ∙ sym h
+lines-once P one (suc n) a b (front, line, (lines, last, e)) (front′, line′, (lines′, last′, e′)) =
+    let same = lines-once P one n front front′ lines lines′ in
+    let alike = one n line line′ last last′ in
+    e ∙ rw (same, alike) (sym e′)
+
+-- and there is one way to put it
+pub puts-once : {out now now′ : List ℕ} {at r r′ : ℕ} (Is : List ℕ → Type 0)
+    → ((a b : List ℕ) → Is a → Is b → a ≡ b) → Puts Is out at now r → Puts Is out at now′ r′
+    → (now ≡ now′) × (r ≡ r′)
+puts-once {out} {at = at} Is one p q =
+    let same = one (p .text) (q .text) (p .is) (q .is) in (
+      p .put .stored ∙ ap (sets out at) same ∙ sym (q .put .stored),
+      p .put .place ∙ ap (λ (text : List ℕ). at + length text) same ∙ sym (q .put .place),
+    )
 
 -- ---- at the front
 

@@ -8,6 +8,7 @@ use mathlib.Core.Path.{_≡_}
 use lib.Dec.{ltb}
 use lib.ListN.{length, take}
 use Rattle.records.specs.First.{pick}
+use Rattle.records.specs.Put.{Put}
 
 -- the bytes of a quoted text of ASCII
 abbrev pub bytes : String → List ℕ
@@ -31,6 +32,18 @@ decimalOf x = decimal (suc x) x
 unfoldable pub refusalLine : ℕ → ℕ → List ℕ
 refusalLine number offset =
     bytes "refusal " ++ decimalOf number ++ bytes " at " ++ decimalOf offset ++ bytes "\n"
+
+-- text is n lines one after the other, line i with P i
+unfoldable pub Lines : (ℕ → List ℕ → Type 0) → ℕ → List ℕ → Type 0
+Lines P zero text = text ≡ []
+Lines P (suc n) text =
+    (front : List ℕ) × (line : List ℕ) × (Lines P n front × P n line × (text ≡ front ++ line))
+
+-- a text that is as Is says is put into out at the place at
+pub record Puts (Is : List ℕ → Type 0) (out : List ℕ) (at : ℕ) (now : List ℕ) (next : ℕ) : Type 0 where
+  pub text : List ℕ
+  pub is : Is text
+  pub put : Put out at text now next
 
 -- the first r bytes of out can be lent as `&out[..r]`: what the kit asks of a program that does so
 abbrev pub Front : ℕ → List ℕ → Type 0

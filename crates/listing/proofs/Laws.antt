@@ -1,0 +1,82 @@
+-- Laws of the two listings: what is put where a line, the last line or a whole text is, and that each has one text.
+-- Assumes nothing.
+use mathlib.Core.Path.{_≡_, refl, sym, ap, _∙_}
+use mathlib.Core.List.{List, _++_}
+use Prim.Native.Nat.{ℕ, _+_}
+use Rattle.records.specs.Put.{Put}
+use Rattle.records.specs.declared.Outcome.the-variants.{Fine, Refused}
+use Rattle.records.proofs.Puts.{then}
+use Rattle.plan.specs.declared.Plan.{Plan}
+use Rattle.plan.specs.Plan.{defaultWaiting}
+use Rattle.plan.specs.Check.{planCheck}
+use Rattle.text.specs.Text.{bytes, refusalLine, Lines, Puts}
+use Rattle.stream.specs.declared.Reading.{Reading}
+use Rattle.stream.specs.Read.{readOf}
+use Rattle.figures.specs.declared.Wait.{Wait}
+use Rattle.figures.specs.Figures.{IsWaitFor}
+use Rattle.judge.specs.declared.Verdict.{Verdict}
+use Rattle.judge.specs.declared.Verdict.the-variants.{Ok, Rate, Late}
+use Rattle.judge.specs.declared.Judgement.{Judgement}
+use Rattle.judge.specs.Judge.{IsJudgement}
+use Rattle.listing.specs.declared.Row.{Row}
+use Rattle.listing.specs.Listing.{header, rowText, refusedText, closingText, waitLine}
+use Rattle.listing.specs.Listing.{IsRow, IsLine, IsClosing, IsReportOf, IsWaitLine, OrRefusal}
+
+-- ---- the last line
+
+pub closes-ok : (c : ℕ) (v : Verdict) → v ≡ Ok → closingText c v ≡ bytes "accepted\n"
+unfolding closingText
+closes-ok c v e = rw e
+
+pub closes-rate : (c : ℕ) (v : Verdict) → v ≡ Rate → closingText c v ≡ refusedText c v
+unfolding closingText
+closes-rate c v e = rw e
+
+pub closes-late : (c : ℕ) (v : Verdict) → v ≡ Late → closingText c v ≡ refusedText c v
+unfolding closingText
+closes-late c v e = rw e
+
+-- ---- what is put
+
+module _ {out now : List ℕ} {at r : ℕ} (plan : Plan) where
+  pub row-put : (i : ℕ) (row : Row) → IsRow plan (i + 1) row → Put out at (rowText row) now r
+      → Puts (IsLine plan i) out at now r
+  row-put i row is put = record { text = rowText row; is = record { row = row; is = is; text = refl }; put = put }
+
+  pub closing-put : (found : Judgement) → planCheck plan ≡ Fine → IsJudgement plan 0 (plan .n) found
+      → Put out at (closingText (found .client) (found .verdict)) now r → Puts (IsClosing plan) out at now r
+  closing-put found fine is put =
+      record {
+        text = closingText (found .client) (found .verdict);
+        is = record { found = found; is = (fine, is); text = refl };
+        put = put;
+      }
+
+  pub wait-put : (i : ℕ) (wait : Wait) → IsWaitFor plan (i + 1) defaultWaiting wait
+      → Put out at (waitLine (i + 1) wait) now r → Puts (IsWaitLine plan i) out at now r
+  wait-put i wait is put =
+      record { text = waitLine (i + 1) wait; is = record { wait = wait; is = is; text = refl }; put = put }
+
+  pub report-put : {o₁ o₂ : List ℕ} {a₁ a₂ : ℕ} → Put out at header o₁ a₁
+      → Puts (Lines (IsLine plan) (plan .n)) o₁ a₁ o₂ a₂ → Puts (IsClosing plan) o₂ a₂ now r
+      → Puts (IsReportOf plan) out at now r
+  report-put first rows closing =
+      record {
+        text = header ++ rows .text ++ closing .text;
+        is =
+            record { rows = rows .text; closing = closing .text; each = rows .is; last = closing .is; whole = refl };
+        put = then (then first (rows .put)) (closing .put);
+      }
+
+-- ---- of a reading r of s: one line where it is refused, else what is put of its plan
+
+module _ {out now : List ℕ} {at next : ℕ} (Of : Plan → List ℕ → Type 0) (s : List ℕ) (r : Reading) (e : r ≡ readOf s) where
+  pub refused-put : (number offset : ℕ) → r .outcome ≡ Refused number offset
+      → Put out at (refusalLine number offset) now next
+      → Puts (OrRefusal (readOf s .outcome) (Of (readOf s .plan))) out at now next
+  refused-put number offset h put =
+      record { text = refusalLine number offset; is = rw (← e, h) refl; put = put }
+
+  pub plan-put : r .outcome ≡ Fine → Puts (Of (r .plan)) out at now next
+      → Puts (OrRefusal (readOf s .outcome) (Of (readOf s .plan))) out at now next
+  plan-put h puts = record { text = puts .text; is = rw (← e, h) (puts .is); put = puts .put }

@@ -1,0 +1,56 @@
+-- `listing::homing` meets its contract: a refused read is its one line; else the text of the plan is put.
+-- Assumes nothing.
+use borrow.Author.Needs.{needs}
+use Rattle.stream.proofs.Answers.{reading-checked}
+use Rattle.listing.specs.Listing.{IsHomingOf}
+use Rattle.listing.proofs.Laws.{refused-put, plan-put}
+use Rattle.listing.proofs.homing.Statement.{statement}
+use Rattle.listing.proofs.homing.Tie as tie
+
+read-requires : tie.Need-read-requires
+read-requires c κs = search needs
+
+enum-known-outcome : tie.Need-enum-known-outcome
+enum-known-outcome c = search needs
+
+put-refusal-requires : tie.Need-put-refusal-requires
+put-refusal-requires c κs = search needs
+
+returns : tie.Need-returns
+returns c =
+    let told = c .before .before .before .outcome .given .1 in
+    let read = c .before .before .before .before .before .before .read in
+    let s = c .before .before .before .before .before .before .before .before .args .s .now in
+    let put = c .put-refusal .ensures in
+    (refused-put IsHomingOf s (read .result) (read .ensures .0) _ _ told (put .0), put .1)
+
+enum-told : tie.Need-enum-told
+enum-told c = search needs
+
+put-waits-requires : tie.Need-put-waits-requires
+put-waits-requires c κs =
+    let told = c .before .enum-told .given .1 in
+    let read = c .before .before .before .before .read in
+    let s = c .before .before .before .before .before .before .args .s .now in
+    reading-checked s (read .result) (read .ensures .0) told
+
+returns-2 : tie.Need-returns-2
+returns-2 c =
+    let told = c .before .before .enum-told .given .1 in
+    let read = c .before .before .before .before .before .read in
+    let s = c .before .before .before .before .before .before .before .args .s .now in
+    let put = c .put-waits .ensures in
+    let text = plan-put IsHomingOf s (read .result) (read .ensures .0) told (put .0) in
+    (text, put .1)
+
+pub homing-spec : {M : Type 1} → statement M
+homing-spec =
+    tie.close
+    (tie.spec
+    read-requires
+    enum-known-outcome
+    put-refusal-requires
+    returns
+    enum-told
+    put-waits-requires
+    returns-2)

@@ -1,0 +1,61 @@
+-- `listing::inner::put_figures` meets its contract: the figure's two numbers are put, or what a client without slots has.
+-- Assumes nothing.
+use borrow.Author.Needs.{needs}
+use Rattle.records.proofs.Puts.{then}
+use Rattle.listing.specs.Listing.{figuresText}
+use Rattle.listing.proofs.inner.put_figures.Statement.{statement}
+use Rattle.listing.proofs.inner.put_figures.Tie as tie
+
+enum-known-figures : tie.Need-enum-known-figures
+enum-known-figures c = search needs
+
+put-decimal-requires : tie.Need-put-decimal-requires
+put-decimal-requires c κs = search needs
+
+slice-aggregate-put : tie.Need-slice-aggregate-put
+slice-aggregate-put c = search needs
+
+put-requires : tie.Need-put-requires
+put-requires c κs = search needs
+
+put-decimal-requires-2 : tie.Need-put-decimal-requires-2
+put-decimal-requires-2 c κs = search needs
+
+enum-known-figures-2 : tie.Need-enum-known-figures-2
+enum-known-figures-2 c = search needs
+
+slice-aggregate-put-2 : tie.Need-slice-aggregate-put-2
+slice-aggregate-put-2 c = search needs
+
+put-requires-2 : tie.Need-put-requires-2
+put-requires-2 c κs = search needs
+
+returns : tie.Need-returns
+unfolding figuresText
+returns c =
+    let at-put = c .before .before in
+    let at-slots = at-put .before .before .before in
+    let figures = at-slots .before .before .before .figures .given .1 in
+    let slots = then (at-slots .put-decimal .ensures .0) (at-put .put .ensures) in
+    (rw figures (then slots (c .put-decimal2 .ensures .0)), search needs)
+
+returns-2 : tie.Need-returns-2
+unfolding figuresText
+returns-2 c =
+    let figures = c .before .before .before .before .figures2 .given .1 in
+    (rw figures (c .put2 .ensures), search needs)
+
+pub put-figures-spec : {M : Type 1} → statement M
+put-figures-spec =
+    tie.close
+    (tie.spec
+    enum-known-figures
+    put-decimal-requires
+    slice-aggregate-put
+    put-requires
+    put-decimal-requires-2
+    enum-known-figures-2
+    slice-aggregate-put-2
+    put-requires-2
+    returns
+    returns-2)

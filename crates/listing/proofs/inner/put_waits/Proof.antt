@@ -1,0 +1,73 @@
+-- `listing::inner::put_waits` meets its contract: the loop's invariant is that the first i lines are put.
+-- Assumes nothing.
+use mathlib.Core.Path.{_≡_}
+use Prim.Native.Nat.{_+_, _-_, _*_, _≤_}
+use native.Mathlib.Omega.{arith}
+use borrow.Author.Needs.{needs}
+use Rattle.plan.proofs.Laws.{plan-fine}
+use Rattle.text.specs.Text.{Lines, Puts, Front}
+use Rattle.text.proofs.Laws.{puts-none, then-line}
+use Rattle.listing.specs.Listing.{IsWaitLine}
+use Rattle.listing.proofs.Laws.{wait-put}
+use Rattle.listing.proofs.inner.put_waits.Statement.{statement}
+use Rattle.listing.proofs.inner.put_waits.Tie as tie
+
+abbrev Inv-loop : tie.InvT-loop
+Inv-loop out₀ plan n next₀ i₀ out next i = (i ≤ n) × (next ≤ 42 * i) × Puts (Lines (IsWaitLine plan) i) out₀ 0 out next × (1 ≤ i → Front next out)
+
+abbrev μ-loop : tie.MeasureT-loop
+μ-loop out₀ plan n next₀ i₀ out next i = n - i
+
+loop-holds : tie.Need-loop-holds Inv-loop μ-loop
+loop-holds c = (omega arith, omega arith, puts-none (IsWaitLine (c .args .plan)) (c .args .out .now) 0, λ h. absurd (omega arith))
+
+add-default-wait : tie.Need-add-default-wait Inv-loop μ-loop
+add-default-wait c = search needs
+
+default-wait-requires : tie.Need-default-wait-requires Inv-loop μ-loop
+default-wait-requires c κs = search needs
+
+add-put-wait-line : tie.Need-add-put-wait-line Inv-loop μ-loop
+add-put-wait-line c = search needs
+
+put-wait-line-requires : tie.Need-put-wait-line-requires Inv-loop μ-loop
+put-wait-line-requires c κs =
+    let start = c .before .before .before .before in
+    omega (arith, plan-fine (start .args .plan) (start .pre) .bounds .n-high)
+
+add-i : tie.Need-add-i Inv-loop μ-loop
+add-i c = search needs
+
+loop-less : tie.Need-loop-less Inv-loop μ-loop
+loop-less c = search needs
+
+loop-again : tie.Need-loop-again Inv-loop μ-loop
+loop-again c =
+    let plan = c .before .before .before .before .before .args .plan in
+    let loop = c .before .before .before .before .loop in
+    let default-wait = c .before .before .default-wait in
+    let line = wait-put plan (loop .i) (default-wait .result) (default-wait .ensures) (c .put-wait-line .ensures .0) in
+    (omega arith, omega arith, then-line (IsWaitLine plan) (loop .i) (loop .inv .2) line, λ h. c .put-wait-line .ensures .1 .1)
+
+returns : tie.Need-returns Inv-loop μ-loop
+returns c =
+    let start = c .before .before in
+    let e : c .before .loop .i ≡ start .args .plan .n = omega arith in
+    let bounds = plan-fine (start .args .plan) (start .pre) .bounds in
+    (rw e at (c .before .loop .inv .2), c .before .loop .inv .3 (omega (arith, bounds .n-low)))
+
+pub put-waits-spec : {M : Type 1} → statement M
+put-waits-spec =
+    tie.close
+    (tie.spec
+    Inv-loop
+    μ-loop
+    loop-holds
+    add-default-wait
+    default-wait-requires
+    add-put-wait-line
+    put-wait-line-requires
+    add-i
+    loop-less
+    loop-again
+    returns)

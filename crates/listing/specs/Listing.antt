@@ -1,0 +1,121 @@
+-- The report's and the homing listing's text (document 01, Programs): what the figures, waits and verdicts of a plan's
+-- clients are, their own definitions say; here is how they are written.
+use mathlib.Core.Path.{_≡_}
+use mathlib.Core.List.{List, _++_}
+use Prim.Native.Nat.{ℕ, _+_}
+use Rattle.records.specs.declared.Outcome.{Outcome}
+use Rattle.records.specs.declared.Outcome.the-variants as outcome
+use Rattle.plan.specs.declared.Plan.{Plan}
+use Rattle.plan.specs.Plan.{defaultWaiting}
+use Rattle.text.specs.Text.{bytes, decimalOf, refusalLine, Lines}
+use Rattle.stream.specs.Read.{readOf}
+use Rattle.figures.specs.declared.Figures.{Figures}
+use Rattle.figures.specs.declared.Figures.the-variants as figures
+use Rattle.figures.specs.declared.Wait.{Wait}
+use Rattle.figures.specs.declared.Wait.the-variants as wait
+use Rattle.figures.specs.Figures.{IsFigures, IsWaitFor}
+use Rattle.judge.specs.declared.Verdict.{Verdict}
+use Rattle.judge.specs.declared.Verdict.the-variants.{Ok, Rate, Late}
+use Rattle.judge.specs.declared.Verdicts.the-variants as verdicts
+use Rattle.judge.specs.declared.Judgement.{Judgement}
+use Rattle.judge.specs.declared.Judged.the-variants as judged
+use Rattle.judge.specs.Judge.{IsJudged, IsVerdictOf}
+use Rattle.listing.specs.declared.Row.{Row}
+
+-- ---- fields
+
+-- m and L; "A client without slots has `-` for L and wait"
+unfoldable pub figuresText : Figures → List ℕ
+figuresText (figures.Given figure) = decimalOf (figure .slots) ++ bytes " " ++ decimalOf (figure .scaled)
+figuresText (figures.Refused number) = bytes "0 -"
+
+-- the default wait, or `-`
+unfoldable pub waitText : Wait → List ℕ
+waitText (wait.Given slots) = decimalOf slots
+waitText (wait.Refused number) = bytes "-"
+
+-- a verdict
+unfoldable pub verdictText : Verdict → List ℕ
+verdictText Ok = bytes "ok"
+verdictText Rate = bytes "rate"
+verdictText Late = bytes "late"
+
+-- ---- the report
+
+-- its first line
+abbrev pub header : List ℕ
+header = bytes "client slots scaled wait verdict\n"
+
+-- "Fields: number, m, L, default wait, the client's verdict"
+unfoldable pub rowText : Row → List ℕ
+rowText row =
+    decimalOf (row .client) ++ bytes " " ++ figuresText (row .figures) ++ bytes " " ++ waitText (row .wait) ++ bytes " "
+    ++ verdictText (row .verdict) ++ bytes "\n"
+
+-- the row of client c: what the library answers of it
+pub record IsRow (plan : Plan) (c : ℕ) (row : Row) : Type 0 where
+  pub client : row .client ≡ c
+  pub figures : IsFigures plan c (row .figures)
+  pub wait : IsWaitFor plan c defaultWaiting (row .wait)
+  pub verdict : IsVerdictOf plan c (verdicts.Given (row .verdict))
+
+-- the line of client i + 1
+pub record IsLine (plan : Plan) (i : ℕ) (line : List ℕ) : Type 0 where
+  pub row : Row
+  pub is : IsRow plan (i + 1) row
+  pub text : line ≡ rowText row
+
+-- "`refused` with client and verdict"
+unfoldable pub refusedText : ℕ → Verdict → List ℕ
+refusedText c verdict = bytes "refused " ++ decimalOf c ++ bytes " " ++ verdictText verdict ++ bytes "\n"
+
+-- "The last line is `accepted`, or `refused` .."
+unfoldable pub closingText : ℕ → Verdict → List ℕ
+closingText c Ok = bytes "accepted\n"
+closingText c Rate = refusedText c Rate
+closingText c Late = refusedText c Late
+
+-- where judging the plan stopped, as the last line
+pub record IsClosing (plan : Plan) (line : List ℕ) : Type 0 where
+  pub found : Judgement
+  pub is : IsJudged plan (judged.Given found)
+  pub text : line ≡ closingText (found .client) (found .verdict)
+
+-- the header, a line for each client, the last line
+pub record IsReportOf (plan : Plan) (text : List ℕ) : Type 0 where
+  pub rows : List ℕ
+  pub closing : List ℕ
+  pub each : Lines (IsLine plan) (plan .n) rows
+  pub last : IsClosing plan closing
+  pub whole : text ≡ header ++ rows ++ closing
+
+-- ---- the homing listing
+
+-- "only number and default wait .. with `-` as above"
+unfoldable pub waitLine : ℕ → Wait → List ℕ
+waitLine c wait = decimalOf c ++ bytes " " ++ waitText wait ++ bytes "\n"
+
+-- the line of client i + 1
+pub record IsWaitLine (plan : Plan) (i : ℕ) (line : List ℕ) : Type 0 where
+  pub wait : Wait
+  pub is : IsWaitFor plan (i + 1) defaultWaiting wait
+  pub text : line ≡ waitLine (i + 1) wait
+
+-- "one line a client, no header"
+abbrev pub IsHomingOf : Plan → List ℕ → Type 0
+IsHomingOf plan = Lines (IsWaitLine plan) (plan .n)
+
+-- ---- of a stream
+
+-- the text of the plan, or "A refused read writes one line"
+abbrev pub OrRefusal : Outcome → (List ℕ → Type 0) → List ℕ → Type 0
+OrRefusal outcome.Fine Is text = Is text
+OrRefusal (outcome.Refused number offset) Is text = text ≡ refusalLine number offset
+
+-- "The report reads a plan .. it writes"
+abbrev pub IsReport : List ℕ → List ℕ → Type 0
+IsReport s = OrRefusal (readOf s .outcome) (IsReportOf (readOf s .plan))
+
+-- "The homing listing reads the same and writes .."
+abbrev pub IsHoming : List ℕ → List ℕ → Type 0
+IsHoming s = OrRefusal (readOf s .outcome) (IsHomingOf (readOf s .plan))

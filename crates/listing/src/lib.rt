@@ -1,0 +1,49 @@
+// The report and the homing listing of a plan stream, as text in a lent page. Every stream gets a text: a stream that is
+// refused its one line. `inner` has the lines, for a plan that is checked.
+pub mod inner; // inner.rt
+
+use figures::Figures;
+use figures::Wait;
+use judge::Verdict;
+use records::Outcome;
+use text::PAGE;
+ghost use Rattle.text.specs.Text.{Puts, Front};
+ghost use Rattle.listing.specs.Listing.{IsReport, IsHoming};
+
+// What a line of the report shows.
+pub struct Row {
+    pub client: usize,
+    pub figures: Figures,
+    pub wait: Wait,
+    pub verdict: Verdict,
+}
+
+// The report: a header, a line for each client, and whether the plan is accepted.
+pub fn report(s: &[u8], out: &mut [u8; PAGE]) -> usize
+    ensures { λ r. ⌜ Puts (IsReport (now (s .entry))) (now (out .entry)) 0 (now (out .exit)) r ⌝ }
+    ensures { λ r. ⌜ Front r (now (out .exit)) ⌝ }
+{
+    let reading = stream::read(s);
+    let outcome = reading.outcome;
+    let plan = reading.plan;
+    if let Outcome::Refused(number, offset) = outcome {
+        return text::put_refusal(out, number, offset);
+    }
+    let a = text::inner::put(out, 0, b"client slots scaled wait verdict\n");
+    let b = inner::put_rows(out, a, plan);
+    inner::put_closing(out, b, plan)
+}
+
+// The homing listing: each client's number and default wait.
+pub fn homing(s: &[u8], out: &mut [u8; PAGE]) -> usize
+    ensures { λ r. ⌜ Puts (IsHoming (now (s .entry))) (now (out .entry)) 0 (now (out .exit)) r ⌝ }
+    ensures { λ r. ⌜ Front r (now (out .exit)) ⌝ }
+{
+    let reading = stream::read(s);
+    let outcome = reading.outcome;
+    let plan = reading.plan;
+    if let Outcome::Refused(number, offset) = outcome {
+        return text::put_refusal(out, number, offset);
+    }
+    inner::put_waits(out, plan)
+}
