@@ -3,7 +3,7 @@
 -- else, a refused read a plan of zeros, and leaves a lent output untouched and a lent record unchanged.
 -- Assumes nothing.
 use mathlib.Core.Path.{_≡_, refl, sym, ap, _∙_}
-use mathlib.Core.List.{List, [], _∷_}
+use mathlib.Core.List.{List, [], _∷_, _++_}
 use mathlib.Core.Logic.{_⊎_, inl, inr}
 use Prim.Native.Nat.{ℕ, _≤_, _<_}
 use native.Mathlib.Omega.{arith}
@@ -13,13 +13,17 @@ use Rattle.records.specs.Refusal as refusal
 use Rattle.records.specs.First.{numberOf, offsetOf, Numbered}
 use Rattle.records.specs.declared.Outcome.{Outcome}
 use Rattle.records.specs.declared.Outcome.the-variants.{Fine, Refused}
+use Rattle.records.specs.Put.{Put}
 use Rattle.records.proofs.Checks.{refused-number, refused-fine}
+use Rattle.records.proofs.Puts.{put-length, put-front}
 use Rattle.plan.specs.declared.Client.{Client}
 use Rattle.plan.specs.declared.Plan.{Plan}
 use Rattle.plan.specs.Plan.{noClient, noPlan, Same}
 use Rattle.plan.specs.Check.{planCheck}
 use Rattle.plan.proofs.Laws.{Checked, plan-fine, plan-pass, same-check}
 use Rattle.plan.proofs.Refusals.{plan-numbered, plan-unread}
+use Rattle.text.specs.Text.{refusalLine, Puts, Front}
+use Rattle.text.proofs.Laws.{puts-once}
 use Rattle.stream.specs.Read.{readCheck, planOf, planIf, readOf}
 use Rattle.stream.specs.Write.{streamOf, writeCheck, writtenBy, writtenOf, writtenNumber, writtenSize, bytesBy}
 use Rattle.stream.specs.Write.{bytesOf, Wrote}
@@ -63,6 +67,8 @@ use Rattle.arbiter.proofs.Slots.{step-number as number-of, either}
 use Rattle.arbiter.proofs.Runs.{advances-so}
 use Rattle.arbiter.proofs.Same.{same-step, answer-unread, count-unread}
 use Rattle.arbiter.proofs.Laws.{step-kept as past-kept, step-none as past-none}
+use Rattle.listing.specs.Listing.{IsReport, IsHoming}
+use Rattle.listing.proofs.Once.{report-once as one-report, homing-once as one-homing}
 use Rattle.promises.specs.Trip.{Copied}
 use Rattle.stream.proofs.Same.{same-stream}
 use Rattle.stream.proofs.Numbers.{read-numbered, write-numbered}
@@ -109,6 +115,29 @@ verdict-once = verdicts-once
 pub search-once : (f n : ℕ) (clients : List Client) (r r′ : Searched) → IsSearched (idlePlan f n clients) r
     → IsSearched (idlePlan f n clients) r′ → r ≡ r′
 search-once f n clients = searched-once (idlePlan f n clients)
+
+-- where a text is put into a lent page: `text::put_refusal`, `listing::report` and `homing`
+pub refusal-once : (out : List ℕ) (number offset r r′ : ℕ) (now now′ : List ℕ)
+    → Put out 0 (refusalLine number offset) now r → Put out 0 (refusalLine number offset) now′ r′
+    → (r ≡ r′) × (now ≡ now′)
+refusal-once out number offset r r′ now now′ h h′ =
+    (once _ r r′ (h .place) (h′ .place), once _ now now′ (h .stored) (h′ .stored))
+
+pub report-once : (s out : List ℕ) (r r′ : ℕ) (now now′ : List ℕ) → Puts (IsReport s) out 0 now r
+    → Puts (IsReport s) out 0 now′ r′ → (r ≡ r′) × (now ≡ now′)
+report-once s out r r′ now now′ = puts-once (IsReport s) (one-report s)
+
+pub homing-once : (s out : List ℕ) (r r′ : ℕ) (now now′ : List ℕ) → Puts (IsHoming s) out 0 now r
+    → Puts (IsHoming s) out 0 now′ r′ → (r ≡ r′) × (now ≡ now′)
+homing-once s out r r′ now now′ = puts-once (IsHoming s) (one-homing s)
+
+-- the page holds the text, and past it what stood there before
+pub page-after : (Is : List ℕ → Type 0) (out now : List ℕ) (r : ℕ) (puts : Puts Is out 0 now r) → Front r now
+    → now ≡ puts .text ++ drop r out
+page-after Is out now r puts front =
+    let put = puts .put in
+    let size : r ≡ length (puts .text) = omega (arith, put .place) in
+    rw size (put-front put (omega (arith, front .0, put-length put)))
 
 -- ---- "Each refusal has its number"
 

@@ -124,11 +124,11 @@ lines-once P one (suc n) a b (front, line, (lines, last, e)) (front′, line′,
 -- and there is one way to put it
 pub puts-once : {out now now′ : List ℕ} {at r r′ : ℕ} (Is : List ℕ → Type 0)
     → ((a b : List ℕ) → Is a → Is b → a ≡ b) → Puts Is out at now r → Puts Is out at now′ r′
-    → (now ≡ now′) × (r ≡ r′)
+    → (r ≡ r′) × (now ≡ now′)
 puts-once {out} {at = at} Is one p q =
     let same = one (p .text) (q .text) (p .is) (q .is) in (
-      p .put .stored ∙ ap (sets out at) same ∙ sym (q .put .stored),
       p .put .place ∙ ap (λ (text : List ℕ). at + length text) same ∙ sym (q .put .place),
+      p .put .stored ∙ ap (sets out at) same ∙ sym (q .put .stored),
     )
 
 -- ---- at the front
