@@ -7,7 +7,6 @@ use Rattle.records.specs.Put.{Put}
 use Rattle.records.specs.declared.Outcome.the-variants.{Fine, Refused}
 use Rattle.records.proofs.Puts.{then}
 use Rattle.plan.specs.declared.Plan.{Plan}
-use Rattle.plan.specs.Plan.{defaultWaiting}
 use Rattle.plan.specs.Check.{planCheck}
 use Rattle.text.specs.Text.{bytes, refusalLine, Lines, Puts}
 use Rattle.stream.specs.declared.Reading.{Reading}
@@ -19,7 +18,7 @@ use Rattle.judge.specs.declared.Verdict.the-variants.{Ok, Rate, Late}
 use Rattle.judge.specs.declared.Judgement.{Judgement}
 use Rattle.judge.specs.Judge.{IsJudgement}
 use Rattle.listing.specs.declared.Row.{Row}
-use Rattle.listing.specs.Listing.{header, rowText, refusedText, closingText, waitLine}
+use Rattle.listing.specs.Listing.{header, rowText, refusedText, closingText, homingWaiting, waitLine}
 use Rattle.listing.specs.Listing.{IsRow, IsLine, IsClosing, IsReportOf, IsWaitLine, OrRefusal}
 
 -- ---- the last line
@@ -52,7 +51,7 @@ module _ {out now : List ℕ} {at r : ℕ} (plan : Plan) where
         put = put;
       }
 
-  pub wait-put : (i : ℕ) (wait : Wait) → IsWaitFor plan (i + 1) defaultWaiting wait
+  pub wait-put : (i : ℕ) (wait : Wait) → IsWaitFor plan (i + 1) homingWaiting wait
       → Put out at (waitLine (i + 1) wait) now r → Puts (IsWaitLine plan i) out at now r
   wait-put i wait is put =
       record { text = waitLine (i + 1) wait; is = record { wait = wait; is = is; text = refl }; put = put }

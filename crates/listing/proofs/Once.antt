@@ -20,7 +20,7 @@ use Rattle.judge.specs.Judge.{IsJudged}
 use Rattle.judge.proofs.Once.{verdict-one, judgement-one}
 use Rattle.listing.specs.declared.Row.{Row}
 use Rattle.listing.specs.Listing.{header, rowText, closingText, waitLine, IsRow, IsLine, IsClosing, IsReportOf}
-use Rattle.listing.specs.Listing.{IsWaitLine, IsHomingOf, OrRefusal, IsReport, IsHoming}
+use Rattle.listing.specs.Listing.{homingWaiting, IsWaitLine, IsHomingOf, OrRefusal, IsReport, IsHoming}
 
 made-alike : (c c′ : ℕ) (g g′ : Figures) (w w′ : Wait) (v v′ : Verdict) → c ≡ c′ → g ≡ g′ → w ≡ w′ → v ≡ v′
     → _≡_ {A = Row} (record { client = c; figures = g; wait = w; verdict = v })
@@ -61,7 +61,7 @@ module _ (plan : Plan) where
 
   wait-line-once : (i : ℕ) (a b : List ℕ) → IsWaitLine plan i a → IsWaitLine plan i b → a ≡ b
   wait-line-once i a b is is′ =
-      let same = waits-once plan (i + 1) defaultWaiting (is .wait) (is′ .wait) (is .is) (is′ .is) in
+      let same = waits-once plan (i + 1) homingWaiting (is .wait) (is′ .wait) (is .is) (is′ .is) in
       is .text ∙ ap (waitLine (i + 1)) same ∙ sym (is′ .text)
 
   homing-of-once : (a b : List ℕ) → IsHomingOf plan a → IsHomingOf plan b → a ≡ b

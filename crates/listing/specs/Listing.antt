@@ -91,6 +91,10 @@ pub record IsReportOf (plan : Plan) (text : List ℕ) : Type 0 where
 
 -- ---- the homing listing
 
+-- the requests that homing waits for: its listing has the "default wait"
+abbrev pub homingWaiting : ℕ
+homingWaiting = defaultWaiting
+
 -- "only number and default wait .. with `-` as above"
 unfoldable pub waitLine : ℕ → Wait → List ℕ
 waitLine c wait = decimalOf c ++ bytes " " ++ waitText wait ++ bytes "\n"
@@ -98,7 +102,7 @@ waitLine c wait = decimalOf c ++ bytes " " ++ waitText wait ++ bytes "\n"
 -- the line of client i + 1
 pub record IsWaitLine (plan : Plan) (i : ℕ) (line : List ℕ) : Type 0 where
   pub wait : Wait
-  pub is : IsWaitFor plan (i + 1) defaultWaiting wait
+  pub is : IsWaitFor plan (i + 1) homingWaiting wait
   pub text : line ≡ waitLine (i + 1) wait
 
 -- "one line a client, no header"

@@ -14,8 +14,9 @@ ghost use Rattle.records.specs.Put.{Put};
 ghost use Rattle.records.specs.declared.Outcome.the-variants.{Fine};
 ghost use Rattle.plan.specs.Check.{planCheck};
 ghost use Rattle.text.specs.Text.{Lines, Puts, Front};
+ghost use Rattle.figures.specs.Figures.{IsWaitFor};
 ghost use Rattle.listing.specs.Listing.{figuresText, waitText, verdictText, rowText, refusedText};
-ghost use Rattle.listing.specs.Listing.{waitLine, IsRow, IsLine, IsClosing, IsHomingOf};
+ghost use Rattle.listing.specs.Listing.{homingWaiting, waitLine, IsRow, IsLine, IsClosing, IsHomingOf};
 
 // A client's m and L.
 fn put_figures(out: &mut [u8; PAGE], at: usize, figures: Figures) -> usize
@@ -141,6 +142,13 @@ pub fn put_closing(out: &mut [u8; PAGE], at: usize, plan: Plan) -> usize
     }
 }
 
+// The wait that the homing listing shows of a client.
+fn homing_wait(plan: Plan, client: usize) -> Wait
+    ensures { λ r. ⌜ IsWaitFor plan client homingWaiting r ⌝ }
+{
+    figures::default_wait(plan, client)
+}
+
 // A line of the homing listing.
 fn put_wait_line(out: &mut [u8; PAGE], at: usize, client: usize, wait: Wait) -> usize
     requires { ⌜ at + 42 ≤ 2048 ⌝ }
@@ -164,7 +172,7 @@ pub fn put_waits(out: &mut [u8; PAGE], plan: Plan) -> usize
     let mut next = 0;
     let mut i = 0;
     while i < n {
-        let wait = figures::default_wait(plan, i + 1);
+        let wait = homing_wait(plan, i + 1);
         next = put_wait_line(out, next, i + 1, wait);
         i += 1;
     }

@@ -21,11 +21,11 @@ abbrev μ-loop : tie.MeasureT-loop
 loop-holds : tie.Need-loop-holds Inv-loop μ-loop
 loop-holds c = (omega arith, omega arith, puts-none (IsWaitLine (c .args .plan)) (c .args .out .now) 0, λ h. absurd (omega arith))
 
-add-default-wait : tie.Need-add-default-wait Inv-loop μ-loop
-add-default-wait c = search needs
+add-homing-wait : tie.Need-add-homing-wait Inv-loop μ-loop
+add-homing-wait c = search needs
 
-default-wait-requires : tie.Need-default-wait-requires Inv-loop μ-loop
-default-wait-requires c κs = search needs
+homing-wait-requires : tie.Need-homing-wait-requires Inv-loop μ-loop
+homing-wait-requires c κs = search needs
 
 add-put-wait-line : tie.Need-add-put-wait-line Inv-loop μ-loop
 add-put-wait-line c = search needs
@@ -45,8 +45,8 @@ loop-again : tie.Need-loop-again Inv-loop μ-loop
 loop-again c =
     let plan = c .before .before .before .before .before .args .plan in
     let loop = c .before .before .before .before .loop in
-    let default-wait = c .before .before .default-wait in
-    let line = wait-put plan (loop .i) (default-wait .result) (default-wait .ensures) (c .put-wait-line .ensures .0) in
+    let homing-wait = c .before .before .homing-wait in
+    let line = wait-put plan (loop .i) (homing-wait .result) (homing-wait .ensures) (c .put-wait-line .ensures .0) in
     (omega arith, omega arith, then-line (IsWaitLine plan) (loop .i) (loop .inv .2) line, λ h. c .put-wait-line .ensures .1 .1)
 
 returns : tie.Need-returns Inv-loop μ-loop
@@ -63,8 +63,8 @@ put-waits-spec =
     Inv-loop
     μ-loop
     loop-holds
-    add-default-wait
-    default-wait-requires
+    add-homing-wait
+    homing-wait-requires
     add-put-wait-line
     put-wait-line-requires
     add-i
