@@ -18,13 +18,9 @@ pub fn least(a: usize, b: usize) -> usize
 
 // This many bytes from a place on, or as many as there are.
 pub fn part(bytes: &[u8], at: usize, count: usize) -> &[u8] {
-    if bytes.len() < at {
-        return &bytes[..0];
-    }
-    if bytes.len() - at < count {
-        return &bytes[at..];
-    }
-    &bytes[at..at + count]
+    let from = least(at, bytes.len());
+    let size = least(count, bytes.len() - from);
+    &bytes[from..from + size]
 }
 
 // A lent output filled from these bytes, with 0 past their end.
@@ -36,13 +32,11 @@ fn fill(out: &mut [u8], bytes: &[u8]) {
 
 // The number of the two bytes at a place, the high byte first; 0 past the end.
 fn number_at(bytes: &[u8], at: usize) -> u16 {
-    if bytes.len() < 2 {
+    let two = part(bytes, at, 2);
+    if two.len() < 2 {
         return 0;
     }
-    if bytes.len() - 2 < at {
-        return 0;
-    }
-    word_at(bytes, at)
+    word_at(two, 0)
 }
 
 // The op, byte 0.

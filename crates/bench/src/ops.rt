@@ -22,10 +22,10 @@ use text::PAGE;
 
 // A client's p, q, a and b.
 fn put_client(out: &mut [u8; PAGE], at: usize, client: Client) -> usize {
-    let p = put_number(out, at, client.p as usize);
-    let q = put_number(out, p, client.q as usize);
-    let a = put_number(out, q, client.a as usize);
-    put_number(out, a, client.b as usize)
+    let at = put_number(out, at, client.p as usize);
+    let at = put_number(out, at, client.q as usize);
+    let at = put_number(out, at, client.a as usize);
+    put_number(out, at, client.b as usize)
 }
 
 // Clients 1 to n.
@@ -45,11 +45,11 @@ fn put_plan(out: &mut [u8; PAGE], plan: Plan) -> usize {
     let n = plan.n;
     let clients = plan.clients;
     let owners = plan.owners;
-    let a = put_word(out, 0, b"plan");
-    let b = put_number(out, a, f);
-    let c = put_number(out, b, n);
-    let d = put_clients(out, c, clients, n);
-    put_numbers(out, d, part(&owners, 0, f))
+    let at = put_word(out, 0, b"plan");
+    let at = put_number(out, at, f);
+    let at = put_number(out, at, n);
+    let at = put_clients(out, at, clients, n);
+    put_numbers(out, at, part(&owners, 0, f))
 }
 
 // 1: the stream is read.
@@ -60,9 +60,9 @@ fn read(out: &mut [u8; PAGE], case: &[u8]) -> usize {
     match outcome {
         Outcome::Fine => put_plan(out, plan),
         Outcome::Refused(number, offset) => {
-            let a = put_refusal(out, number);
-            let b = put_word(out, a, b"at");
-            put_number(out, b, offset)
+            let at = put_refusal(out, number);
+            let at = put_word(out, at, b"at");
+            put_number(out, at, offset)
         },
     }
 }
@@ -123,10 +123,10 @@ fn default_wait(out: &mut [u8; PAGE], case: &[u8]) -> usize {
 
 // A client that is not ok: its number and verdict, and the stretch.
 fn put_failure(out: &mut [u8; PAGE], judgement: Judgement, verdict: &[u8]) -> usize {
-    let a = put_number(out, 0, judgement.client);
-    let b = put_word(out, a, verdict);
-    let c = put_number(out, b, judgement.start);
-    put_number(out, c, judgement.length)
+    let at = put_number(out, 0, judgement.client);
+    let at = put_word(out, at, verdict);
+    let at = put_number(out, at, judgement.start);
+    put_number(out, at, judgement.length)
 }
 
 // Where judging stopped.
@@ -180,10 +180,10 @@ fn put_step(out: &mut [u8; PAGE], stepped: Stepped) -> usize {
     let answer = stepped.answer;
     let after = stepped.next;
     let pending = after.pending;
-    let a = put_answer(out, answer);
-    let b = put_word(out, a, b":");
-    let c = put_number(out, b, after.position);
-    put_numbers(out, c, &pending)
+    let at = put_answer(out, answer);
+    let at = put_word(out, at, b":");
+    let at = put_number(out, at, after.position);
+    put_numbers(out, at, &pending)
 }
 
 // 8: one step by value.

@@ -1,6 +1,6 @@
--- Laws of the two listings: what is put where a line, the last line or a whole text is, and that each has one text.
+-- Laws of the two listings: what is put is the line of a client, the last line, or a whole text.
 -- Assumes nothing.
-use mathlib.Core.Path.{_≡_, refl, sym, ap, _∙_}
+use mathlib.Core.Path.{_≡_, refl}
 use mathlib.Core.List.{List, _++_}
 use Prim.Native.Nat.{ℕ, _+_}
 use Rattle.records.specs.Put.{Put}
@@ -23,33 +23,28 @@ use Rattle.listing.specs.Listing.{IsRow, IsLine, IsClosing, IsReportOf, 
 
 -- ---- the last line
 
-pub closes-ok : (c : ℕ) (v : Verdict) → v ≡ Ok → closingText c v ≡ bytes "accepted\n"
+pub closes-ok : (c : ℕ) (v : Verdict) → v ≡ Ok → bytes "accepted\n" ≡ closingText c v
 unfolding closingText
 closes-ok c v e = rw e
 
-pub closes-rate : (c : ℕ) (v : Verdict) → v ≡ Rate → closingText c v ≡ refusedText c v
+pub closes-refused : (c : ℕ) (v : Verdict) → (v ≡ Ok → ⊥) → refusedText c v ≡ closingText c v
 unfolding closingText
-closes-rate c v e = rw e
+closes-refused c Ok h = absurd (h refl)
+closes-refused c Rate h = refl
+closes-refused c Late h = refl
 
-pub closes-late : (c : ℕ) (v : Verdict) → v ≡ Late → closingText c v ≡ refusedText c v
-unfolding closingText
-closes-late c v e = rw e
-
--- ---- what is put
+-- ---- what is put of a plan
 
 module _ {out now : List ℕ} {at r : ℕ} (plan : Plan) where
   pub row-put : (i : ℕ) (row : Row) → IsRow plan (i + 1) row → Put out at (rowText row) now r
       → Puts (IsLine plan i) out at now r
   row-put i row is put = record { text = rowText row; is = record { row = row; is = is; text = refl }; put = put }
 
-  pub closing-put : (found : Judgement) → planCheck plan ≡ Fine → IsJudgement plan 0 (plan .n) found
-      → Put out at (closingText (found .client) (found .verdict)) now r → Puts (IsClosing plan) out at now r
-  closing-put found fine is put =
-      record {
-        text = closingText (found .client) (found .verdict);
-        is = record { found = found; is = (fine, is); text = refl };
-        put = put;
-      }
+  pub closing-put : (found : Judgement) (line : List ℕ) → planCheck plan ≡ Fine
+      → IsJudgement plan 0 (plan .n) found → line ≡ closingText (found .client) (found .verdict)
+      → Put out at line now r → Puts (IsClosing plan) out at now r
+  closing-put found line fine is e put =
+      record { text = line; is = record { found = found; is = (fine, is); text = e }; put = put }
 
   pub wait-put : (i : ℕ) (wait : Wait) → IsWaitFor plan (i + 1) homingWaiting wait
       → Put out at (waitLine (i + 1) wait) now r → Puts (IsWaitLine plan i) out at now r
@@ -69,13 +64,13 @@ module _ {out now : List ℕ} {at r : ℕ} (plan : Plan) where
 
 -- ---- of a reading r of s: one line where it is refused, else what is put of its plan
 
-module _ {out now : List ℕ} {at next : ℕ} (Of : Plan → List ℕ → Type 0) (s : List ℕ) (r : Reading) (e : r ≡ readOf s) where
-  pub refused-put : (number offset : ℕ) → r .outcome ≡ Refused number offset
+module _ {out now : List ℕ} {at next : ℕ} (Of : Plan → List ℕ → Type 0) (s : List ℕ) (r : Reading) where
+  pub refused-put : (number offset : ℕ) → r ≡ readOf s → r .outcome ≡ Refused number offset
       → Put out at (refusalLine number offset) now next
       → Puts (OrRefusal (readOf s .outcome) (Of (readOf s .plan))) out at now next
-  refused-put number offset h put =
+  refused-put number offset e h put =
       record { text = refusalLine number offset; is = rw (← e, h) refl; put = put }
 
-  pub plan-put : r .outcome ≡ Fine → Puts (Of (r .plan)) out at now next
+  pub plan-put : r ≡ readOf s → r .outcome ≡ Fine → Puts (Of (r .plan)) out at now next
       → Puts (OrRefusal (readOf s .outcome) (Of (readOf s .plan))) out at now next
-  plan-put h puts = record { text = puts .text; is = rw (← e, h) (puts .is); put = puts .put }
+  plan-put e h puts = record { text = puts .text; is = rw (← e, h) (puts .is); put = puts .put }

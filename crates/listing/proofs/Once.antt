@@ -2,7 +2,7 @@
 -- and one place where judging stops.
 -- Assumes nothing.
 use mathlib.Core.Path.{_≡_, sym, ap, _∙_}
-use mathlib.Core.List.{List, _++_}
+use mathlib.Core.List.{List}
 use Prim.Native.Nat.{ℕ, _+_}
 use Rattle.records.specs.declared.Outcome.{Outcome}
 use Rattle.records.specs.declared.Outcome.the-variants.{Fine, Refused}
@@ -14,13 +14,10 @@ use Rattle.figures.specs.declared.Figures.{Figures}
 use Rattle.figures.specs.declared.Wait.{Wait}
 use Rattle.figures.proofs.Once.{figures-once, waits-once}
 use Rattle.judge.specs.declared.Verdict.{Verdict}
-use Rattle.judge.specs.declared.Judgement.{Judgement}
-use Rattle.judge.specs.declared.Judged.the-variants as judged
-use Rattle.judge.specs.Judge.{IsJudged}
 use Rattle.judge.proofs.Once.{verdict-one, judgement-one}
 use Rattle.listing.specs.declared.Row.{Row}
-use Rattle.listing.specs.Listing.{header, rowText, closingText, waitLine, IsRow, IsLine, IsClosing, IsReportOf}
-use Rattle.listing.specs.Listing.{homingWaiting, IsWaitLine, IsHomingOf, OrRefusal, IsReport, IsHoming}
+use Rattle.listing.specs.Listing.{rowText, homingWaiting, waitLine, IsRow, IsLine, IsClosing, IsReportOf}
+use Rattle.listing.specs.Listing.{IsWaitLine, IsHomingOf, OrRefusal, IsReport, IsHoming}
 
 made-alike : (c c′ : ℕ) (g g′ : Figures) (w w′ : Wait) (v v′ : Verdict) → c ≡ c′ → g ≡ g′ → w ≡ w′ → v ≡ v′
     → _≡_ {A = Row} (record { client = c; figures = g; wait = w; verdict = v })
@@ -40,17 +37,11 @@ module _ (plan : Plan) where
   line-once i a b is is′ =
       is .text ∙ ap rowText (row-once (i + 1) (is .row) (is′ .row) (is .is) (is′ .is)) ∙ sym (is′ .text)
 
-  judged-alike : (a b : Judgement) → IsJudged plan (judged.Given a) → IsJudged plan (judged.Given b)
-      → (a .verdict ≡ b .verdict) × (a .client ≡ b .client)
-  judged-alike a b is is′ =
-      let same =
-      judgement-one plan 0 (plan .n) (a .verdict) (b .verdict) (a .client) (b .client) (a .start) (b .start)
-      (a .length) (b .length) (is .1) (is′ .1) in
-      (same .0, same .1)
-
   closing-once : (a b : List ℕ) → IsClosing plan a → IsClosing plan b → a ≡ b
   closing-once a b is is′ =
-      let same = judged-alike (is .found) (is′ .found) (is .is) (is′ .is) in
+      let v = is .found .verdict in
+      let v′ = is′ .found .verdict in
+      let same = judgement-one plan 0 (plan .n) v v′ _ _ _ _ _ _ (is .is .1) (is′ .is .1) in
       is .text ∙ rw (same .1, same .0) (sym (is′ .text))
 
   report-of-once : (a b : List ℕ) → IsReportOf plan a → IsReportOf plan b → a ≡ b

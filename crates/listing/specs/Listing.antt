@@ -24,7 +24,8 @@ use Rattle.listing.specs.declared.Row.{Row}
 
 -- ---- fields
 
--- m and L; "A client without slots has `-` for L and wait"
+-- m and L; "A client without slots has `-` for L and wait", and its m is 0: a client of a plan that was read has no
+-- other refusal
 unfoldable pub figuresText : Figures → List ℕ
 figuresText (figures.Given figure) = decimalOf (figure .slots) ++ bytes " " ++ decimalOf (figure .scaled)
 figuresText (figures.Refused number) = bytes "0 -"
@@ -34,7 +35,7 @@ unfoldable pub waitText : Wait → List ℕ
 waitText (wait.Given slots) = decimalOf slots
 waitText (wait.Refused number) = bytes "-"
 
--- a verdict
+-- a verdict's word
 unfoldable pub verdictText : Verdict → List ℕ
 verdictText Ok = bytes "ok"
 verdictText Rate = bytes "rate"

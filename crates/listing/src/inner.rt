@@ -1,5 +1,6 @@
-// The lines of the report and of the homing listing, put into a page at a place where there is room for the longest; the
-// answer is the place after them. A number takes up to twenty bytes.
+// The texts of the report and of the homing listing, of a plan that is checked, and their lines. Each is put into a
+// page at a place where there is room for the longest, a whole text at the front; the answer is the place after it. A
+// number takes up to 20 bytes, a verdict up to 4.
 use super::Row;
 use figures::Figures;
 use figures::Wait;
@@ -9,26 +10,26 @@ use text::PAGE;
 use text::inner::put;
 use text::inner::put_decimal;
 ghost use mathlib.Core.Path.{_≡_};
-ghost use Prim.Native.Nat.{_+_, _≤_};
+ghost use Prim.Native.Nat.{_+_, _*_, _≤_};
 ghost use Rattle.records.specs.Put.{Put};
 ghost use Rattle.records.specs.declared.Outcome.the-variants.{Fine};
 ghost use Rattle.plan.specs.Check.{planCheck};
-ghost use Rattle.text.specs.Text.{Lines, Puts, Front};
+ghost use Rattle.text.specs.Text.{Lines, Puts, Room, Front};
 ghost use Rattle.figures.specs.Figures.{IsWaitFor};
-ghost use Rattle.listing.specs.Listing.{figuresText, waitText, verdictText, rowText, refusedText};
-ghost use Rattle.listing.specs.Listing.{homingWaiting, waitLine, IsRow, IsLine, IsClosing, IsHomingOf};
+ghost use Rattle.listing.specs.Listing.{figuresText, waitText, verdictText, rowText, refusedText, waitLine};
+ghost use Rattle.listing.specs.Listing.{homingWaiting, IsRow, IsLine, IsClosing, IsReportOf, IsHomingOf};
 
-// A client's m and L.
+// A client's m and L: two numbers and a space.
 fn put_figures(out: &mut [u8; PAGE], at: usize, figures: Figures) -> usize
-    requires { ⌜ at + 41 ≤ 2048 ⌝ }
+    requires { ⌜ Room at 41 ⌝ }
     ensures { λ r. ⌜ Put (now (out .entry)) at (figuresText figures) (now (out .exit)) r ⌝ }
     ensures { λ r. ⌜ r ≤ at + 41 ⌝ }
 {
     match figures {
         Figures::Given(figure) => {
-            let a = put_decimal(out, at, figure.slots);
-            let b = put(out, a, b" ");
-            put_decimal(out, b, figure.scaled)
+            let at = put_decimal(out, at, figure.slots);
+            let at = put(out, at, b" ");
+            put_decimal(out, at, figure.scaled)
         },
         Figures::Refused(number) => put(out, at, b"0 -"),
     }
@@ -36,7 +37,7 @@ fn put_figures(out: &mut [u8; PAGE], at: usize, figures: Figures) -> usize
 
 // A client's wait.
 fn put_wait(out: &mut [u8; PAGE], at: usize, wait: Wait) -> usize
-    requires { ⌜ at + 20 ≤ 2048 ⌝ }
+    requires { ⌜ Room at 20 ⌝ }
     ensures { λ r. ⌜ Put (now (out .entry)) at (waitText wait) (now (out .exit)) r ⌝ }
     ensures { λ r. ⌜ r ≤ at + 20 ⌝ }
 {
@@ -48,7 +49,7 @@ fn put_wait(out: &mut [u8; PAGE], at: usize, wait: Wait) -> usize
 
 // A verdict's word.
 fn put_verdict(out: &mut [u8; PAGE], at: usize, verdict: Verdict) -> usize
-    requires { ⌜ at + 4 ≤ 2048 ⌝ }
+    requires { ⌜ Room at 4 ⌝ }
     ensures { λ r. ⌜ Put (now (out .entry)) at (verdictText verdict) (now (out .exit)) r ⌝ }
     ensures { λ r. ⌜ r ≤ at + 4 ⌝ }
 {
@@ -59,23 +60,23 @@ fn put_verdict(out: &mut [u8; PAGE], at: usize, verdict: Verdict) -> usize
     }
 }
 
-// A line of the report.
+// A line of the report: four numbers, a verdict, four spaces and the line feed.
 fn put_row(out: &mut [u8; PAGE], at: usize, row: Row) -> usize
-    requires { ⌜ at + 89 ≤ 2048 ⌝ }
+    requires { ⌜ Room at 89 ⌝ }
     ensures { λ r. ⌜ Put (now (out .entry)) at (rowText row) (now (out .exit)) r ⌝ }
     ensures { λ r. ⌜ r ≤ at + 89 ⌝ }
 {
     let figures = row.figures;
     let wait = row.wait;
     let verdict = row.verdict;
-    let a = put_decimal(out, at, row.client);
-    let b = put(out, a, b" ");
-    let c = put_figures(out, b, figures);
-    let d = put(out, c, b" ");
-    let e = put_wait(out, d, wait);
-    let f = put(out, e, b" ");
-    let g = put_verdict(out, f, verdict);
-    put(out, g, b"\n")
+    let at = put_decimal(out, at, row.client);
+    let at = put(out, at, b" ");
+    let at = put_figures(out, at, figures);
+    let at = put(out, at, b" ");
+    let at = put_wait(out, at, wait);
+    let at = put(out, at, b" ");
+    let at = put_verdict(out, at, verdict);
+    put(out, at, b"\n")
 }
 
 // What the report's line of a client shows.
@@ -95,12 +96,12 @@ fn row_of(plan: Plan, client: usize) -> Row
     }
 }
 
-// The report's lines, one for each client.
-pub fn put_rows(out: &mut [u8; PAGE], at: usize, plan: Plan) -> usize
+// The report's lines, one for each client, at most eight.
+fn put_rows(out: &mut [u8; PAGE], at: usize, plan: Plan) -> usize
     requires { ⌜ planCheck plan ≡ Fine ⌝ }
-    requires { ⌜ at + 712 ≤ 2048 ⌝ }
+    requires { ⌜ Room at (8 * 89) ⌝ }
     ensures { λ r. ⌜ Puts (Lines (IsLine plan) (plan .n)) (now (out .entry)) at (now (out .exit)) r ⌝ }
-    ensures { λ r. ⌜ r ≤ at + 712 ⌝ }
+    ensures { λ r. ⌜ r ≤ at + 8 * 89 ⌝ }
 {
     let n = plan.n;
     let mut next = at;
@@ -113,23 +114,23 @@ pub fn put_rows(out: &mut [u8; PAGE], at: usize, plan: Plan) -> usize
     next
 }
 
-// A last line that refuses: the client and its verdict.
+// A last line that refuses: `refused`, the client's number and its verdict, two spaces and the line feed.
 fn put_refused(out: &mut [u8; PAGE], at: usize, client: usize, verdict: Verdict) -> usize
-    requires { ⌜ at + 34 ≤ 2048 ⌝ }
+    requires { ⌜ Room at 34 ⌝ }
     ensures { λ r. ⌜ Put (now (out .entry)) at (refusedText client verdict) (now (out .exit)) r ⌝ }
     ensures { λ r. ⌜ Front r (now (out .exit)) ⌝ }
 {
-    let a = put(out, at, b"refused ");
-    let b = put_decimal(out, a, client);
-    let c = put(out, b, b" ");
-    let d = put_verdict(out, c, verdict);
-    put(out, d, b"\n")
+    let at = put(out, at, b"refused ");
+    let at = put_decimal(out, at, client);
+    let at = put(out, at, b" ");
+    let at = put_verdict(out, at, verdict);
+    put(out, at, b"\n")
 }
 
 // The report's last line.
-pub fn put_closing(out: &mut [u8; PAGE], at: usize, plan: Plan) -> usize
+fn put_closing(out: &mut [u8; PAGE], at: usize, plan: Plan) -> usize
     requires { ⌜ planCheck plan ≡ Fine ⌝ }
-    requires { ⌜ at + 34 ≤ 2048 ⌝ }
+    requires { ⌜ Room at 34 ⌝ }
     ensures { λ r. ⌜ Puts (IsClosing plan) (now (out .entry)) at (now (out .exit)) r ⌝ }
     ensures { λ r. ⌜ Front r (now (out .exit)) ⌝ }
 {
@@ -137,9 +138,19 @@ pub fn put_closing(out: &mut [u8; PAGE], at: usize, plan: Plan) -> usize
     let verdict = found.verdict;
     match verdict {
         Verdict::Ok => put(out, at, b"accepted\n"),
-        Verdict::Rate => put_refused(out, at, found.client, verdict),
-        Verdict::Late => put_refused(out, at, found.client, verdict),
+        _ => put_refused(out, at, found.client, verdict),
     }
+}
+
+// The report.
+pub fn put_report(out: &mut [u8; PAGE], plan: Plan) -> usize
+    requires { ⌜ planCheck plan ≡ Fine ⌝ }
+    ensures { λ r. ⌜ Puts (IsReportOf plan) (now (out .entry)) 0 (now (out .exit)) r ⌝ }
+    ensures { λ r. ⌜ Front r (now (out .exit)) ⌝ }
+{
+    let at = put(out, 0, b"client slots scaled wait verdict\n");
+    let at = put_rows(out, at, plan);
+    put_closing(out, at, plan)
 }
 
 // The wait that the homing listing shows of a client.
@@ -149,21 +160,21 @@ fn homing_wait(plan: Plan, client: usize) -> Wait
     figures::default_wait(plan, client)
 }
 
-// A line of the homing listing.
+// A line of the homing listing: two numbers, a space and the line feed.
 fn put_wait_line(out: &mut [u8; PAGE], at: usize, client: usize, wait: Wait) -> usize
-    requires { ⌜ at + 42 ≤ 2048 ⌝ }
+    requires { ⌜ Room at 42 ⌝ }
     ensures { λ r. ⌜ Put (now (out .entry)) at (waitLine client wait) (now (out .exit)) r ⌝ }
     ensures { λ r. ⌜ r ≤ at + 42 ⌝ }
     ensures { λ r. ⌜ Front r (now (out .exit)) ⌝ }
 {
-    let a = put_decimal(out, at, client);
-    let b = put(out, a, b" ");
-    let c = put_wait(out, b, wait);
-    put(out, c, b"\n")
+    let at = put_decimal(out, at, client);
+    let at = put(out, at, b" ");
+    let at = put_wait(out, at, wait);
+    put(out, at, b"\n")
 }
 
-// The homing listing's lines, one for each client.
-pub fn put_waits(out: &mut [u8; PAGE], plan: Plan) -> usize
+// The homing listing: a line for each client.
+pub fn put_homing(out: &mut [u8; PAGE], plan: Plan) -> usize
     requires { ⌜ planCheck plan ≡ Fine ⌝ }
     ensures { λ r. ⌜ Puts (IsHomingOf plan) (now (out .entry)) 0 (now (out .exit)) r ⌝ }
     ensures { λ r. ⌜ Front r (now (out .exit)) ⌝ }

@@ -1,5 +1,5 @@
-// The report and the homing listing of a plan stream, as text in a lent page. Every stream gets a text: a stream that is
-// refused its one line. `inner` has the lines, for a plan that is checked.
+// The report and the homing listing of a plan stream, as text in a lent page. Every stream gets a text, one that is
+// refused its one line. `inner` has the texts and their lines, for a plan that is checked.
 pub mod inner; // inner.rt
 
 use figures::Figures;
@@ -29,9 +29,7 @@ pub fn report(s: &[u8], out: &mut [u8; PAGE]) -> usize
     if let Outcome::Refused(number, offset) = outcome {
         return text::put_refusal(out, number, offset);
     }
-    let a = text::inner::put(out, 0, b"client slots scaled wait verdict\n");
-    let b = inner::put_rows(out, a, plan);
-    inner::put_closing(out, b, plan)
+    inner::put_report(out, plan)
 }
 
 // The homing listing: each client's number and default wait.
@@ -45,5 +43,5 @@ pub fn homing(s: &[u8], out: &mut [u8; PAGE]) -> usize
     if let Outcome::Refused(number, offset) = outcome {
         return text::put_refusal(out, number, offset);
     }
-    inner::put_waits(out, plan)
+    inner::put_homing(out, plan)
 }

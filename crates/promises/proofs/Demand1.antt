@@ -3,12 +3,13 @@
 -- else, a refused read a plan of zeros, and leaves a lent output untouched and a lent record unchanged.
 -- Assumes nothing.
 use mathlib.Core.Path.{_≡_, refl, sym, ap, _∙_}
-use mathlib.Core.List.{List, [], _∷_, _++_}
+use mathlib.Core.List.{List, [], _∷_}
 use mathlib.Core.Logic.{_⊎_, inl, inr}
 use Prim.Native.Nat.{ℕ, _≤_, _<_}
 use native.Mathlib.Omega.{arith}
-use lib.ListN.{length, getD, drop, replicate}
-use lib.Seq.{drop-at}
+use lib.ListN.{length, getD, take, drop, replicate}
+use lib.Seq.{take-at, drop-at}
+use Rattle.frame.specs.Frame.{slotsOf}
 use Rattle.records.specs.Refusal as refusal
 use Rattle.records.specs.First.{numberOf, offsetOf, Numbered}
 use Rattle.records.specs.declared.Outcome.{Outcome}
@@ -18,11 +19,11 @@ use Rattle.records.proofs.Checks.{refused-number, refused-fine}
 use Rattle.records.proofs.Puts.{put-length, put-front}
 use Rattle.plan.specs.declared.Client.{Client}
 use Rattle.plan.specs.declared.Plan.{Plan}
-use Rattle.plan.specs.Plan.{noClient, noPlan, Same}
+use Rattle.plan.specs.Plan.{noClient, noPlan, ownOf, Same}
 use Rattle.plan.specs.Check.{planCheck}
 use Rattle.plan.proofs.Laws.{Checked, plan-fine, plan-pass, same-check}
 use Rattle.plan.proofs.Refusals.{plan-numbered, plan-unread}
-use Rattle.text.specs.Text.{refusalLine, Puts, Front}
+use Rattle.text.specs.Text.{bytes, refusalLine, Puts, Front}
 use Rattle.text.proofs.Laws.{puts-once}
 use Rattle.stream.specs.Read.{readCheck, planOf, planIf, readOf}
 use Rattle.stream.specs.Write.{streamOf, writeCheck, writtenBy, writtenOf, writtenNumber, writtenSize, bytesBy}
@@ -37,7 +38,7 @@ use Rattle.figures.specs.declared.Wait.{Wait}
 use Rattle.figures.specs.declared.Wait.the-variants as wait
 use Rattle.figures.proofs.Questions.{Asked, figure-numbered, figure-fine, figure-pass, Waited, wait-fine, wait-pass}
 use Rattle.figures.proofs.Questions.{wait-numbered, asked-numbered, asked-fine, asked-pass}
-use Rattle.figures.proofs.Answers.{refused-not-fine, wait-refused-not-fine}
+use Rattle.figures.proofs.Answers.{given-fine, refused-not-fine, wait-given-fine, wait-refused-not-fine}
 use Rattle.figures.proofs.Once.{figures-once, waits-once}
 use Rattle.figures.proofs.Same.{figures-same, waits-same}
 use Rattle.judge.specs.declared.Judged.{Judged}
@@ -67,7 +68,7 @@ use Rattle.arbiter.proofs.Slots.{step-number as number-of, either}
 use Rattle.arbiter.proofs.Runs.{advances-so}
 use Rattle.arbiter.proofs.Same.{same-step, answer-unread, count-unread}
 use Rattle.arbiter.proofs.Laws.{step-kept as past-kept, step-none as past-none}
-use Rattle.listing.specs.Listing.{IsReport, IsHoming}
+use Rattle.listing.specs.Listing.{figuresText, waitText, IsReport, IsHoming}
 use Rattle.listing.proofs.Once.{report-once as one-report, homing-once as one-homing}
 use Rattle.promises.specs.Trip.{Copied}
 use Rattle.stream.proofs.Same.{same-stream}
@@ -131,13 +132,30 @@ pub homing-once : (s out : List ℕ) (r r′ : ℕ) (now now′ : List ℕ) → 
     → Puts (IsHoming s) out 0 now′ r′ → (r ≡ r′) × (now ≡ now′)
 homing-once s out r r′ now now′ = puts-once (IsHoming s) (one-homing s)
 
--- the page holds the text, and past it what stood there before
-pub page-after : (Is : List ℕ → Type 0) (out now : List ℕ) (r : ℕ) (puts : Puts Is out 0 now r) → Front r now
-    → now ≡ puts .text ++ drop r out
-page-after Is out now r puts front =
-    let put = puts .put in
-    let size : r ≡ length (puts .text) = omega (arith, put .place) in
-    rw size (put-front put (omega (arith, front .0, put-length put)))
+-- and what such a page then holds: at its front, which the programs write, the text, and past it what stood there
+pub page-after : (out text now : List ℕ) (r : ℕ) → Put out 0 text now r → Front r now
+    → (take r now ≡ text) × (drop r now ≡ drop r out)
+page-after out text now r put front =
+    let size : length text ≡ r = omega (arith, put .place) in
+    let page = put-front put (omega (arith, front .0, put-length put)) in (
+      ap (take r) page ∙ take-at text _ r size,
+      ap (drop r) page ∙ drop-at text _ r size ∙ ap (λ (k : ℕ). drop k out) size,
+    )
+
+-- "A client without slots has `-` for L and wait", and m 0; one with slots has numbers (`figure-given`, `wait-given`)
+pub no-slots-figures : (plan : Plan) (c : ℕ) (r : Figures) → IsFigures plan c r
+    → slotsOf (ownOf plan c) (plan .f) ≡ 0 → figuresText r ≡ bytes "0 -"
+unfolding figuresText
+no-slots-figures plan c (figures.Given figure) is none =
+    absurd (omega (arith, none, figure-fine plan c (given-fine plan c figure is) .owns))
+no-slots-figures plan c (figures.Refused number) is none = refl
+
+pub no-slots-wait : (plan : Plan) (c k : ℕ) (r : Wait) → IsWaitFor plan c k r
+    → slotsOf (ownOf plan c) (plan .f) ≡ 0 → waitText r ≡ bytes "-"
+unfolding waitText
+no-slots-wait plan c k (wait.Given slots) is none =
+    absurd (omega (arith, none, wait-fine plan c k (wait-given-fine plan c k slots is) .asked .owns))
+no-slots-wait plan c k (wait.Refused number) is none = refl
 
 -- ---- "Each refusal has its number"
 

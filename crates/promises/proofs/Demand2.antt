@@ -4,7 +4,7 @@
 -- so do the contracts of `stream::read` and `stream::write`. Figures: the latency L/m is the least one of Definition 1,
 -- over the arbiter's runs.
 -- Assumes nothing.
-use mathlib.Core.Path.{_≡_, refl, ap}
+use mathlib.Core.Path.{_≡_, refl}
 use mathlib.Core.List.{List}
 use Prim.Native.Nat.{ℕ, _+_, _-_, _*_, _≤_, _<_}
 use native.Mathlib.Omega.{arith}
@@ -12,7 +12,6 @@ use lib.ListN.{length}
 use Rattle.frame.specs.Frame.{Consecutive}
 use Rattle.frame.proofs.Limits.{scaled-least, scaled-most, scaled-small, scaled-consecutive, wait-small}
 use Rattle.records.specs.First.{numberOf}
-use Rattle.records.specs.declared.Outcome.{Outcome}
 use Rattle.records.specs.declared.Outcome.the-variants.{Fine}
 use Rattle.records.proofs.Refusals.{numbered-fine}
 use Rattle.records.proofs.Words.{Bytes}
@@ -21,7 +20,7 @@ use Rattle.plan.specs.Plan.{ownOf, Same, used}
 use Rattle.plan.specs.Check.{planCheck}
 use Rattle.plan.proofs.Laws.{plan-pass, used-same, same-used, same-check}
 use Rattle.stream.specs.Kind.{rowsOf}
-use Rattle.stream.specs.Read.{planOf, planIf, readCheck, readOf}
+use Rattle.stream.specs.Read.{readCheck, readOf}
 use Rattle.stream.specs.Trip.{Held}
 use Rattle.stream.specs.Write.{streamOf}
 use Rattle.stream.specs.declared.Reading.{Reading}

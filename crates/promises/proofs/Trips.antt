@@ -18,7 +18,7 @@ use Rattle.plan.specs.declared.Plan.{Plan}
 use Rattle.plan.specs.Plan.{noPlan}
 use Rattle.plan.specs.Check.{planCheck}
 use Rattle.plan.proofs.Refusals.{plan-unread}
-use Rattle.stream.specs.Read.{readCheck, planOf, planIf, readOf}
+use Rattle.stream.specs.Read.{readOf}
 use Rattle.stream.specs.Trip.{Rewritten, Reread}
 use Rattle.stream.specs.Write.{streamOf, writeCheck, writtenBy, writtenOf, bytesBy, bytesOf, Wrote}
 use Rattle.stream.specs.declared.Reading.{Reading}

@@ -41,12 +41,13 @@ pub reading-found : (s : List ℕ) (r : Reading) (o : Outcome) → r ≡ readOf 
 unfolding readOf
 reading-found s r o e h = ap (λ (x : Reading). x .outcome) (sym e) ∙ h
 
--- a plan that is read is the stream's, and passes the plan's checks
-pub reading-plan : (s : List ℕ) (r : Reading) → r ≡ readOf s → r .outcome ≡ outcome.Fine → r .plan ≡ planOf s
+-- a plan that is read is the stream's
+reading-plan : (s : List ℕ) (r : Reading) → r ≡ readOf s → r .outcome ≡ outcome.Fine → r .plan ≡ planOf s
 unfolding readOf
 reading-plan s r e h =
     ap (λ (x : Reading). x .plan) e ∙ ap (λ (o : Outcome). planIf o (planOf s)) (reading-found s r outcome.Fine e h)
 
+-- and passes the plan's checks
 pub reading-checked : (s : List ℕ) (r : Reading) → r ≡ readOf s → r .outcome ≡ outcome.Fine
     → planCheck (r .plan) ≡ outcome.Fine
 reading-checked s r e h = rw (reading-plan s r e h) (plan-right s (reading-found s r outcome.Fine e h))

@@ -1,7 +1,6 @@
 -- Laws of text: a number's digits one by one, and how many there are; a text that is put byte by byte, or line by line.
 -- Assumes nothing.
 use mathlib.Core.Path.{_≡_, refl, ap, sym, _∙_}
-use mathlib.Core.Bool.{Bool, true, false}
 use mathlib.Core.List.{List, [], _∷_, _++_}
 use mathlib.Core.Logic.{⊎-elim}
 use Prim.Native.Nat.{ℕ, zero, suc, _+_, _*_, _/_, _%_, _^_, _≤_, _<_}
@@ -9,10 +8,8 @@ use native.Mathlib.Nat.{lt-trans, div-lt-self, div-lt-iff-lt-mul, mod-eq-of-lt, 
 use native.Mathlib.Numerals.{add-one}
 use native.Mathlib.Omega.{arith}
 use borrow.Author.Tests.{lt-ltb, le-ltb}
-use lib.Dec.{ltb}
 use lib.ListN.{length, take, getD, length-append}
 use lib.Seq.{sets, take-suc, length-take-le}
-use Rattle.records.specs.First.{pick}
 use Rattle.records.specs.Put.{Put}
 use Rattle.records.proofs.Checks.{below-or-not}
 use Rattle.records.proofs.Puts.{none, then}
@@ -66,7 +63,7 @@ pub more-length : (x : ℕ) → 10 ≤ x → length (decimalOf x) ≡ length (de
 more-length x h = ap length (last-digit x h) ∙ length-append (decimalOf (x / 10)) (digit (x % 10) ∷ [])
 
 -- a number below 10 ^ (k + 1) has at most k + 1 digits
-pub digits-most : (k x : ℕ) → x < 10 ^ suc k → length (decimalOf x) ≤ suc k
+digits-most : (k x : ℕ) → x < 10 ^ suc k → length (decimalOf x) ≤ suc k
 digits-most zero x l = omega (arith, one-length x l)
 digits-most (suc k) x l =
     ⊎-elim
@@ -93,23 +90,20 @@ then-byte text i l p q = rw (add-one, take-suc text i 0 l) (then p q)
 
 -- ---- line by line
 
-pub lines-none : (P : ℕ → List ℕ → Type 0) → Lines P 0 []
-unfolding Lines
-lines-none P = refl
-
-pub lines-more : (P : ℕ → List ℕ → Type 0) (n : ℕ) (front line : List ℕ) → Lines P n front → P n line
-    → Lines P (n + 1) (front ++ line)
-unfolding Lines
-lines-more P n front line lines last = rw add-one (front, line, (lines, last, refl))
-
 -- no line put, and one turn of the loop that puts lines
 pub puts-none : (P : ℕ → List ℕ → Type 0) (out : List ℕ) (at : ℕ) → Puts (Lines P 0) out at out at
-puts-none P out at = record { text = []; is = lines-none P; put = none out at }
+unfolding Lines
+puts-none P out at = record { text = []; is = refl; put = none out at }
 
 pub then-line : {o₀ o₁ o₂ : List ℕ} {a₀ a₁ a₂ : ℕ} (P : ℕ → List ℕ → Type 0) (n : ℕ) → Puts (Lines P n) o₀ a₀ o₁ a₁
     → Puts (P n) o₁ a₁ o₂ a₂ → Puts (Lines P (n + 1)) o₀ a₀ o₂ a₂
+unfolding Lines
 then-line P n p q =
-    record { text = p .text ++ q .text; is = lines-more P n (p .text) (q .text) (p .is) (q .is); put = then (p .put) (q .put) }
+    record {
+      text = p .text ++ q .text;
+      is = rw add-one (p .text, q .text, (p .is, q .is, refl));
+      put = then (p .put) (q .put);
+    }
 
 -- where each line is one text, so are all
 pub lines-once : (P : ℕ → List ℕ → Type 0) → ((i : ℕ) (a b : List ℕ) → P i a → P i b → a ≡ b) → (n : ℕ) (a b : List ℕ)

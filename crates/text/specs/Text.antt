@@ -15,7 +15,7 @@ abbrev pub bytes : String → List ℕ
 bytes str.[] = []
 bytes (str._∷_ c s) = code c ∷ bytes s
 
--- the byte of a digit, 0 to 9
+-- the byte of a digit, 0 to 9; that of 0 is 48
 abbrev pub digit : ℕ → ℕ
 digit d = 48 + d
 
@@ -45,6 +45,11 @@ pub record Puts (Is : List ℕ → Type 0) (out : List ℕ) (at : ℕ) (now : Li
   pub is : Is text
   pub put : Put out at text now next
 
--- the first r bytes of out can be lent as `&out[..r]`: what the kit asks of a program that does so
+-- a page, of 2,048 bytes, has room for k from the place at on
+abbrev pub Room : ℕ → ℕ → Type 0
+Room at k = at + k ≤ 2048
+
+-- the first r bytes of out can be lent as `&out[..r]`: what the kit asks of a program that does so. The second part
+-- follows from the first
 abbrev pub Front : ℕ → List ℕ → Type 0
 Front r out = (r ≤ length out) × (r ≡ length (take r out))

@@ -24,7 +24,7 @@ pub fn put(out: &mut [u8], at: usize, text: &[u8]) -> usize
 fn last_digit(x: usize) -> u8
     ensures { λ r. ⌜ r ≡ digit (x % 10) ⌝ }
 {
-    48 + (x % 10) as u8
+    b'0' + (x % 10) as u8
 }
 
 // The digits of a number: those of its tenth, where it has more than one, and then the last.

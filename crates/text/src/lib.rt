@@ -7,7 +7,7 @@ use inner::put_decimal;
 ghost use Rattle.records.specs.Put.{Put};
 ghost use Rattle.text.specs.Text.{refusalLine, Front};
 
-// The bytes of a page: the longest text has eight lines of up to six numbers, and a number has up to twenty digits.
+// The bytes of a page: more than twice what the longest text needs, be it a report or a reply of the bench.
 pub const PAGE: usize = 2048;
 
 // The one line of a refused read, at the front of a page.
@@ -15,9 +15,9 @@ pub fn put_refusal(out: &mut [u8; PAGE], number: u8, offset: usize) -> usize
     ensures { λ r. ⌜ Put (now (out .entry)) 0 (refusalLine number offset) (now (out .exit)) r ⌝ }
     ensures { λ r. ⌜ Front r (now (out .exit)) ⌝ }
 {
-    let a = put(out, 0, b"refusal ");
-    let b = put_decimal(out, a, number as usize);
-    let c = put(out, b, b" at ");
-    let d = put_decimal(out, c, offset);
-    put(out, d, b"\n")
+    let at = put(out, 0, b"refusal ");
+    let at = put_decimal(out, at, number as usize);
+    let at = put(out, at, b" at ");
+    let at = put_decimal(out, at, offset);
+    put(out, at, b"\n")
 }

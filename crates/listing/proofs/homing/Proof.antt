@@ -19,29 +19,30 @@ put-refusal-requires c κs = search needs
 returns : tie.Need-returns
 returns c =
     let told = c .before .before .before .outcome .given .1 in
-    let read = c .before .before .before .before .before .before .read in
-    let s = c .before .before .before .before .before .before .before .before .args .s .now in
+    let at-read = c .before .before .before .before .before .before in
+    let read = at-read .read in
+    let s = at-read .before .before .args .s .now in
     let put = c .put-refusal .ensures in
-    (refused-put IsHomingOf s (read .result) (read .ensures .0) _ _ told (put .0), put .1)
+    (refused-put IsHomingOf s (read .result) _ _ (read .ensures .0) told (put .0), put .1)
 
 enum-told : tie.Need-enum-told
 enum-told c = search needs
 
-put-waits-requires : tie.Need-put-waits-requires
-put-waits-requires c κs =
+put-homing-requires : tie.Need-put-homing-requires
+put-homing-requires c κs =
     let told = c .before .enum-told .given .1 in
-    let read = c .before .before .before .before .read in
-    let s = c .before .before .before .before .before .before .args .s .now in
-    reading-checked s (read .result) (read .ensures .0) told
+    let at-read = c .before .before .before .before in
+    let read = at-read .read in
+    reading-checked (at-read .before .before .args .s .now) (read .result) (read .ensures .0) told
 
 returns-2 : tie.Need-returns-2
 returns-2 c =
     let told = c .before .before .enum-told .given .1 in
-    let read = c .before .before .before .before .before .read in
-    let s = c .before .before .before .before .before .before .before .args .s .now in
-    let put = c .put-waits .ensures in
-    let text = plan-put IsHomingOf s (read .result) (read .ensures .0) told (put .0) in
-    (text, put .1)
+    let at-read = c .before .before .before .before .before in
+    let read = at-read .read in
+    let s = at-read .before .before .args .s .now in
+    let put = c .put-homing .ensures in
+    (plan-put IsHomingOf s (read .result) (read .ensures .0) told (put .0), put .1)
 
 pub homing-spec : {M : Type 1} → statement M
 homing-spec =
@@ -52,5 +53,5 @@ homing-spec =
     put-refusal-requires
     returns
     enum-told
-    put-waits-requires
+    put-homing-requires
     returns-2)

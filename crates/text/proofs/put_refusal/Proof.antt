@@ -6,10 +6,6 @@ use Rattle.text.specs.Text.{refusalLine}
 use Rattle.text.proofs.Laws.{front-of}
 use Rattle.text.proofs.put_refusal.Statement.{statement}
 use Rattle.text.proofs.put_refusal.Tie as tie
-use Rattle.text.proofs.put_refusal.Reads as reads
-use Rattle.text.proofs.put_refusal.Lts as lts
-use Rattle.text.proofs.inner.put.Reads as put-reads
-use Rattle.text.proofs.inner.put_decimal.Reads as put-decimal-reads
 
 slice-aggregate-put : tie.Need-slice-aggregate-put
 slice-aggregate-put c = search needs

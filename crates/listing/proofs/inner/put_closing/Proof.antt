@@ -1,9 +1,13 @@
 -- `listing::inner::put_closing` meets its contract: what judging found decides the last line.
 -- Assumes nothing.
+use mathlib.Core.Path.{_≡_}
+use mathlib.Core.Logic.{⊎-elim}
+use native.Mathlib.Omega.{arith}
 use borrow.Author.Needs.{needs}
 use Rattle.plan.proofs.Laws.{plan-fine}
 use Rattle.text.proofs.Laws.{front-of}
-use Rattle.listing.proofs.Laws.{closes-ok, closes-rate, closes-late, closing-put}
+use Rattle.judge.specs.declared.Verdict.the-variants.{Ok}
+use Rattle.listing.proofs.Laws.{closes-ok, closes-refused, closing-put}
 use Rattle.listing.proofs.inner.put_closing.Statement.{statement}
 use Rattle.listing.proofs.inner.put_closing.Tie as tie
 
@@ -21,41 +25,26 @@ slice-aggregate-put c = search needs
 put-requires : tie.Need-put-requires
 put-requires c κs = search needs
 
-enum-told-2 : tie.Need-enum-told-2
-enum-told-2 c = search needs
-
 put-refused-requires : tie.Need-put-refused-requires
 put-refused-requires c κs = search needs
 
-enum-told-3 : tie.Need-enum-told-3
-enum-told-3 c = search needs
-
-put-refused-requires-2 : tie.Need-put-refused-requires-2
-put-refused-requires-2 c κs = search needs
-
 returns : tie.Need-returns
 returns c =
-    let start = c .before .before .before .before .before .before in
     let found = c .before .before .before .before .before .first-failure in
-    let verdict = c .before .before .before .enum-told .given .1 in
-    let line = closes-ok (found .result .client) _ verdict in
-    (closing-put (start .args .plan) (found .result) (start .pre .0) (found .ensures) (rw line (c .put .ensures)), front-of _ _ (search needs))
+    let start = c .before .before .before .before .before .before in
+    let e = closes-ok (found .result .client) _ (c .before .before .before .enum-told .given .1) in
+    let line = closing-put (start .args .plan) (found .result) _ (start .pre .0) (found .ensures) e (c .put .ensures) in
+    (line, front-of _ _ (search needs))
 
 returns-2 : tie.Need-returns-2
 returns-2 c =
-    let start = c .before .before .before .before .before in
-    let found = c .before .before .before .before .first-failure in
-    let verdict = c .before .before .enum-told2 .given .1 in
-    let line = closes-rate (found .result .client) _ verdict in
-    (closing-put (start .args .plan) (found .result) (start .pre .0) (found .ensures) (rw line (c .put-refused .ensures .0)), c .put-refused .ensures .1)
-
-returns-3 : tie.Need-returns-3
-returns-3 c =
-    let start = c .before .before .before .before .before in
-    let found = c .before .before .before .before .first-failure in
-    let verdict = c .before .before .enum-told3 .given .1 in
-    let line = closes-late (found .result .client) _ verdict in
-    (closing-put (start .args .plan) (found .result) (start .pre .0) (found .ensures) (rw line (c .put-refused2 .ensures .0)), c .put-refused2 .ensures .1)
+    let found = c .before .before .before .first-failure in
+    let start = c .before .before .before .before in
+    let other : found .result .verdict ≡ Ok → ⊥ = λ e.
+    ⊎-elim (λ h. omega (arith, h)) (λ h. omega (arith, h)) (rw e at (c .before .before .match .keys2)) in
+    let e = closes-refused (found .result .client) (found .result .verdict) other in
+    let put = c .put-refused .ensures in
+    (closing-put (start .args .plan) (found .result) _ (start .pre .0) (found .ensures) e (put .0), put .1)
 
 pub put-closing-spec : {M : Type 1} → statement M
 put-closing-spec =
@@ -65,10 +54,6 @@ put-closing-spec =
     enum-told
     slice-aggregate-put
     put-requires
-    enum-told-2
     put-refused-requires
-    enum-told-3
-    put-refused-requires-2
     returns
-    returns-2
-    returns-3)
+    returns-2)

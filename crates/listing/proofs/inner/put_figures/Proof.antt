@@ -1,4 +1,4 @@
--- `listing::inner::put_figures` meets its contract: the figure's two numbers are put, or what a client without slots has.
+-- `listing::inner::put_figures` meets its contract: a figure's two numbers are put, or what a client without slots has.
 -- Assumes nothing.
 use borrow.Author.Needs.{needs}
 use Rattle.records.proofs.Puts.{then}

@@ -37,7 +37,8 @@ returns c =
     let at-verdict = c .before .before .before in
     let at-client = at-verdict .before .before .before .before .before in
     let client = then (at-client .before .before .put .ensures) (at-client .put-decimal .ensures .0) in
-    let verdict = then (then client (at-verdict .before .before .put2 .ensures)) (at-verdict .put-verdict .ensures .0) in
+    let space = then client (at-verdict .before .before .put2 .ensures) in
+    let verdict = then space (at-verdict .put-verdict .ensures .0) in
     (then verdict (c .put3 .ensures), front-of _ _ (search needs))
 
 pub put-refused-spec : {M : Type 1} → statement M

@@ -13,7 +13,8 @@ use Rattle.listing.proofs.inner.put_rows.Statement.{statement}
 use Rattle.listing.proofs.inner.put_rows.Tie as tie
 
 abbrev Inv-loop : tie.InvT-loop
-Inv-loop out₀ at plan n next₀ i₀ out next i = (i ≤ n) × (next ≤ at + 89 * i) × Puts (Lines (IsLine plan) i) out₀ at out next
+Inv-loop out₀ at plan n next₀ i₀ out next i =
+    (i ≤ n) × (next ≤ at + 89 * i) × Puts (Lines (IsLine plan) i) out₀ at out next
 
 abbrev μ-loop : tie.MeasureT-loop
 μ-loop out₀ at plan n next₀ i₀ out next i = n - i
@@ -42,16 +43,17 @@ loop-again : tie.Need-loop-again Inv-loop μ-loop
 loop-again c =
     let plan = c .before .before .before .before .before .args .plan in
     let loop = c .before .before .before .before .loop in
-    let row-of = c .before .before .row-of in
-    let line = row-put plan (loop .i) (row-of .result) (row-of .ensures) (c .put-row .ensures .0) in
+    let row = c .before .before .row-of in
+    let line = row-put plan (loop .i) (row .result) (row .ensures) (c .put-row .ensures .0) in
     (omega arith, omega arith, then-line (IsLine plan) (loop .i) (loop .inv .2) line)
 
 returns : tie.Need-returns Inv-loop μ-loop
 returns c =
+    let loop = c .before .loop in
     let start = c .before .before in
-    let e : c .before .loop .i ≡ start .args .plan .n = omega arith in
+    let e : loop .i ≡ start .args .plan .n = omega arith in
     let bounds = plan-fine (start .args .plan) (start .pre .0) .bounds in
-    (rw e at (c .before .loop .inv .2), omega (arith, bounds .n-high))
+    (rw e at (loop .inv .2), omega (arith, bounds .n-high))
 
 pub put-rows-spec : {M : Type 1} → statement M
 put-rows-spec =

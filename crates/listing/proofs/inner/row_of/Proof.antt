@@ -1,4 +1,5 @@
--- `listing::inner::row_of` meets its contract: the answers are those of the entries, and of a checked plan's client.
+-- `listing::inner::row_of` meets its contract: figures and wait are what the entries answer, and a client of a
+-- checked plan has a verdict.
 -- Assumes nothing.
 use mathlib.Core.Path.{refl}
 use native.Mathlib.Omega.{arith}

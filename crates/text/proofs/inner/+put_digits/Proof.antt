@@ -1,14 +1,12 @@
 -- `text::inner::put_digits` meets its contract: the digits of the tenth are put by the call of itself, and then the
 -- last. The measure is the number.
 -- Assumes nothing.
-use mathlib.Core.Path.{_≡_}
 use Prim.Native.Nat.{ℕ, _<_}
 use native.Mathlib.Nat.{div-lt-self}
 use native.Mathlib.Omega.{arith}
 use borrow.Author.Needs.{needs}
 use borrow.Fn.Kinds.{In}
 use borrow.Fn.PlainCycle.{Measures, is, falls, and}
-use lib.ListN.{length, length-append}
 use Rattle.records.proofs.Puts.{then, put-length}
 use Rattle.records.proofs.inner.put_byte.Reads as put-byte-reads
 use Rattle.text.proofs.Laws.{one-digit, last-digit, one-length, more-length}
@@ -30,8 +28,14 @@ pre-below t = and 1 put-digits-kinds.ps (falls 1 put-digits-kinds.ps _<_ μ-put-
 
 -- what its calls ask and tell, the last its own
 abbrev calls : ℕ → lts.Claims
-calls t =
-    (last-digit-reads.Asked, last-digit-reads.Learnt, put-byte-reads.Asked, put-byte-reads.Learnt, pre-below t, put-digits.Post)
+calls t = (
+  last-digit-reads.Asked,
+  last-digit-reads.Learnt,
+  put-byte-reads.Asked,
+  put-byte-reads.Learnt,
+  pre-below t,
+  put-digits.Post,
+)
 
 module _ (t : ℕ) where
   last-digit-requires : lts.Need-last-digit-requires (calls t) (pre-at t) put-digits.Post

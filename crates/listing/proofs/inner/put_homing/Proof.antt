@@ -1,7 +1,8 @@
--- `listing::inner::put_waits` meets its contract: the loop's invariant is that the first i lines are put.
+-- `listing::inner::put_homing` meets its contract: the loop's invariant is that the first i lines are put. That they
+-- end within the page each line tells of itself, so it is known once there is one.
 -- Assumes nothing.
 use mathlib.Core.Path.{_≡_}
-use Prim.Native.Nat.{_+_, _-_, _*_, _≤_}
+use Prim.Native.Nat.{_-_, _*_, _≤_}
 use native.Mathlib.Omega.{arith}
 use borrow.Author.Needs.{needs}
 use Rattle.plan.proofs.Laws.{plan-fine}
@@ -9,17 +10,20 @@ use Rattle.text.specs.Text.{Lines, Puts, Front}
 use Rattle.text.proofs.Laws.{puts-none, then-line}
 use Rattle.listing.specs.Listing.{IsWaitLine}
 use Rattle.listing.proofs.Laws.{wait-put}
-use Rattle.listing.proofs.inner.put_waits.Statement.{statement}
-use Rattle.listing.proofs.inner.put_waits.Tie as tie
+use Rattle.listing.proofs.inner.put_homing.Statement.{statement}
+use Rattle.listing.proofs.inner.put_homing.Tie as tie
 
 abbrev Inv-loop : tie.InvT-loop
-Inv-loop out₀ plan n next₀ i₀ out next i = (i ≤ n) × (next ≤ 42 * i) × Puts (Lines (IsWaitLine plan) i) out₀ 0 out next × (1 ≤ i → Front next out)
+Inv-loop out₀ plan n next₀ i₀ out next i =
+    (i ≤ n) × (next ≤ 42 * i) × Puts (Lines (IsWaitLine plan) i) out₀ 0 out next × (1 ≤ i → Front next out)
 
 abbrev μ-loop : tie.MeasureT-loop
 μ-loop out₀ plan n next₀ i₀ out next i = n - i
 
 loop-holds : tie.Need-loop-holds Inv-loop μ-loop
-loop-holds c = (omega arith, omega arith, puts-none (IsWaitLine (c .args .plan)) (c .args .out .now) 0, λ h. absurd (omega arith))
+loop-holds c =
+    let none = puts-none (IsWaitLine (c .args .plan)) (c .args .out .now) 0 in
+    (omega arith, omega arith, none, λ h. absurd (omega arith))
 
 add-homing-wait : tie.Need-add-homing-wait Inv-loop μ-loop
 add-homing-wait c = search needs
@@ -45,19 +49,21 @@ loop-again : tie.Need-loop-again Inv-loop μ-loop
 loop-again c =
     let plan = c .before .before .before .before .before .args .plan in
     let loop = c .before .before .before .before .loop in
-    let homing-wait = c .before .before .homing-wait in
-    let line = wait-put plan (loop .i) (homing-wait .result) (homing-wait .ensures) (c .put-wait-line .ensures .0) in
-    (omega arith, omega arith, then-line (IsWaitLine plan) (loop .i) (loop .inv .2) line, λ h. c .put-wait-line .ensures .1 .1)
+    let wait = c .before .before .homing-wait in
+    let put = c .put-wait-line .ensures in
+    let line = wait-put plan (loop .i) (wait .result) (wait .ensures) (put .0) in
+    (omega arith, omega arith, then-line (IsWaitLine plan) (loop .i) (loop .inv .2) line, λ h. put .1 .1)
 
 returns : tie.Need-returns Inv-loop μ-loop
 returns c =
+    let loop = c .before .loop in
     let start = c .before .before in
-    let e : c .before .loop .i ≡ start .args .plan .n = omega arith in
+    let e : loop .i ≡ start .args .plan .n = omega arith in
     let bounds = plan-fine (start .args .plan) (start .pre) .bounds in
-    (rw e at (c .before .loop .inv .2), c .before .loop .inv .3 (omega (arith, bounds .n-low)))
+    (rw e at (loop .inv .2), loop .inv .3 (omega (arith, bounds .n-low)))
 
-pub put-waits-spec : {M : Type 1} → statement M
-put-waits-spec =
+pub put-homing-spec : {M : Type 1} → statement M
+put-homing-spec =
     tie.close
     (tie.spec
     Inv-loop
