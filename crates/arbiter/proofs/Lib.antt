@@ -1,3 +1,5 @@
+-- The laws of `arbiter`: a file rests only on those before it.
+-- Assumes nothing.
 pub mod Questions
 pub mod Slots
 pub mod Runs

@@ -23,9 +23,9 @@ use Rattle.arbiter.proofs.Laws.{same-rule}
 -- ---- plans that are the same
 
 module _ (plan other : Plan) (same : Same plan other) (arb : Arbiter) (xs : List ℕ) where
-  check-same : stepCheck plan (arb .position) (length xs) ≡ stepCheck other (arb .position) (length xs)
+  step-check-same : stepCheck plan (arb .position) (length xs) ≡ stepCheck other (arb .position) (length xs)
   unfolding stepCheck positionCheck arrivalsCheck
-  check-same = rw (same-check plan other same, same .frame, same .count)
+  step-check-same = rw (same-check plan other same, same .frame, same .count)
 
   advanced-same : Steps plan (arb .position) (length xs) → advanced plan arb xs ≡ advanced other arb xs
   unfolding advanced
@@ -43,9 +43,9 @@ module _ (plan other : Plan) (same : Same plan other) (arb : Arbiter) (xs : List
       by : (o : Outcome) → stepCheck plan (arb .position) (length xs) ≡ o → stepOf plan arb xs ≡ stepOf other arb xs
       by Fine e =
           step-advances plan arb xs e ∙ advanced-same (step-fine plan _ _ e)
-          ∙ sym (step-advances other arb xs (sym check-same ∙ e))
+          ∙ sym (step-advances other arb xs (sym step-check-same ∙ e))
       by (Refused k offset) e =
-          step-refused plan arb xs e ∙ sym (step-refused other arb xs (sym check-same ∙ e))
+          step-refused plan arb xs e ∙ sym (step-refused other arb xs (sym step-check-same ∙ e))
 
 -- ---- "Counts past n are not read"
 

@@ -62,7 +62,7 @@ up-to-itself (y ∷ p) = inr (refl, up-to-itself p)
 -- ---- the tables passed
 
 -- of the tables of g places, those that have Q have Q′, and the other way round
-pub record Agree (g n : ℕ) (Q Q′ : List ℕ → Type 0) : Type 0 where
+pub record SameTables (g n : ℕ) (Q Q′ : List ℕ → Type 0) : Type 0 where
   pub there : (u : List ℕ) → Table g n u → Q u → Q′ u
   pub back : (u : List ℕ) → Table g n u → Q′ u → Q u
 
@@ -78,7 +78,7 @@ past-map R R′ q q′ k n f (y ∷ p) (x ∷ u) t (inr h) =
     inr (h .0, past-map R R′ q q′ k n f p u rest (h .1))
 
 past-same : (R R′ : List ℕ → Type 0) (q q′ : List ℕ) (g n : ℕ) (p : List ℕ) → length p ≤ g
-    → Agree (g - length p) n (Past R q) (Past R′ q′) → Agree g n (Past R (p ++ q)) (Past R′ (p ++ q′))
+    → SameTables (g - length p) n (Past R q) (Past R′ q′) → SameTables g n (Past R (p ++ q)) (Past R′ (p ++ q′))
 past-same R R′ q q′ g n p l s =
     let k = g - length p in
     let e : length p + k ≡ g = omega arith in
@@ -93,9 +93,9 @@ none-below [] h = h
 none-below (x ∷ v) (inl l) = omega arith
 none-below (x ∷ v) (inr h) = h .1
 
-pub before-first : (g n : ℕ) (p : List ℕ) → length p ≤ g → Agree g n (Before p) (Before (p ++ (0 ∷ [])))
+pub before-first : (g n : ℕ) (p : List ℕ) → length p ≤ g → SameTables g n (Before p) (Before (p ++ (0 ∷ [])))
 before-first g n p l =
-    let s : Agree (g - length p) n (Before []) (Before (0 ∷ [])) =
+    let s : SameTables (g - length p) n (Before []) (Before (0 ∷ [])) =
     record { there = λ v t h. absurd h; back = λ v t h. none-below v h } in
     rw append-nil at (past-same _ _ [] (0 ∷ []) g n p l s)
 
@@ -112,9 +112,9 @@ below-up-to owner (x ∷ v) (inl l) =
 below-up-to owner (x ∷ v) (inr h) = absurd (h .1)
 
 pub up-to-next : (g n : ℕ) (p : List ℕ) (owner : ℕ) → length p ≤ g
-    → Agree g n (UpTo (p ++ (owner ∷ []))) (Before (p ++ ((owner + 1) ∷ [])))
+    → SameTables g n (UpTo (p ++ (owner ∷ []))) (Before (p ++ ((owner + 1) ∷ [])))
 up-to-next g n p owner l =
-    let s : Agree (g - length p) n (UpTo (owner ∷ [])) (Before ((owner + 1) ∷ [])) =
+    let s : SameTables (g - length p) n (UpTo (owner ∷ [])) (Before ((owner + 1) ∷ [])) =
     record { there = λ v t h. up-to-below owner v h; back = λ v t h. below-up-to owner v h } in
     past-same _ _ (owner ∷ []) ((owner + 1) ∷ []) g n p l s
 
@@ -123,8 +123,8 @@ all-below : (k n : ℕ) (v : List ℕ) → 0 < k → Table k n v → Before ((n 
 all-below k n [] l t = absurd (omega (arith, t .long))
 all-below k n (x ∷ v) l t = inl (omega (arith, t .most 0))
 
-pub before-last : (g n : ℕ) (p : List ℕ) → length p < g → Agree g n (Before (p ++ ((n + 1) ∷ []))) (UpTo p)
+pub before-last : (g n : ℕ) (p : List ℕ) → length p < g → SameTables g n (Before (p ++ ((n + 1) ∷ []))) (UpTo p)
 before-last g n p l =
-    let s : Agree (g - length p) n (Before ((n + 1) ∷ [])) (UpTo []) =
+    let s : SameTables (g - length p) n (Before ((n + 1) ∷ [])) (UpTo []) =
     record { there = λ v t h. tt; back = λ v t h. all-below (g - length p) n v (omega arith) t } in
     rw append-nil at (past-same _ _ ((n + 1) ∷ []) [] g n p (omega arith) s)

@@ -15,13 +15,13 @@ use Rattle.explore.specs.Needs.{needOf, Fits, Sound}
 use Rattle.explore.specs.Seen.{ownersOf, IsFront, Before, UpTo, Kept, Seen, Holds, Explored}
 use Rattle.explore.proofs.Needs.{none-fits, need-least}
 use Rattle.explore.proofs.Order.{before-or-begins, before-up-to, before-least, begins-least, up-to-itself}
-use Rattle.explore.proofs.Order.{Agree, before-first, up-to-next, before-last}
+use Rattle.explore.proofs.Order.{SameTables, before-first, up-to-next, before-last}
 use Rattle.explore.proofs.Fronts.{owned-append, owned-most, front-need}
 
 -- ---- the fillings seen
 
 module _ (P : List ℕ → Type 0) (g n : ℕ) where
-  seen-same : (Q Q′ : List ℕ → Type 0) → Agree g n Q Q′ → (b : Bool) (t : List ℕ) (w : ℕ)
+  seen-same : (Q Q′ : List ℕ → Type 0) → SameTables g n Q Q′ → (b : Bool) (t : List ℕ) (w : ℕ)
       → Seen P g n Q b t w → Seen P g n Q′ b t w
   seen-same Q Q′ same true t w s =
       record {
@@ -35,7 +35,7 @@ module _ (P : List ℕ → Type 0) (g n : ℕ) where
   seen-same Q Q′ same false t w s =
       record { count = s .count; none = λ u table q. s .none u table (same .back u table q) }
 
-  holds-same : (Q Q′ : List ℕ → Type 0) → Agree g n Q Q′ → (best : Best) → Holds P g n Q best → Holds P g n Q′ best
+  holds-same : (Q Q′ : List ℕ → Type 0) → SameTables g n Q Q′ → (best : Best) → Holds P g n Q best → Holds P g n Q′ best
   holds-same Q Q′ same best = seen-same Q Q′ same (best .found) (take g (best .owners)) (best .given)
 
   -- no filling that begins with p gives fewer places: what was seen stays

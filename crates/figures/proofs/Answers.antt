@@ -61,10 +61,10 @@ module _ (plan : Plan) (c : ℕ) where
       → figureCheck plan c ≡ outcome.Fine → ⊥
   refused-not-fine number is e = omega (arith, is .figure e .slots, figure-fine plan c e .owns)
 
-  -- its numbers are small
-  pub given-small : (figure : Figure) → Asked plan c → IsFigure (ownOf plan c) (plan .f) figure
+  -- a figure's numbers are small
+  pub figure-small : (figure : Figure) → Asked plan c → IsFigure (ownOf plan c) (plan .f) figure
       → (1 ≤ figure .slots) × (figure .slots ≤ 64) × (figure .scaled ≤ 1024)
-  given-small figure ok is =
+  figure-small figure ok is =
       let f-high = ok .checked .bounds .f-high in (
         omega (arith, is .slots, ok .owns),
         omega (arith, is .slots, count-small (plan .owners) (plan .f) c 0 (plan .f) f-high),

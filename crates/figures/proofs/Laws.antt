@@ -6,15 +6,13 @@ use mathlib.Core.List.{List}
 use Prim.Native.Nat.{ℕ, _+_, _-_, _*_, _%_, _≤_, _<_}
 use native.Mathlib.Nat.{zero-add, add-zero, add-assoc, mod-lt, mod-eq-of-lt, mul-le-mul}
 use native.Mathlib.Omega.{arith}
-use lib.Dec.{eqb}
 use lib.ListN.{getD}
 use Rattle.frame.specs.Frame.{nextOf, within, slotsOf, Frame, IsScaled}
 use Rattle.frame.specs.Largest.{largest, lack, lackFrom, scaledOf}
 use Rattle.frame.proofs.Within.{next-mod, within-more, within-most}
 use Rattle.frame.proofs.Scaled.{scaled-is}
-use Rattle.records.specs.First.{pick}
 use Rattle.plan.specs.declared.Plan.{Plan}
-use Rattle.plan.specs.Plan.{ownIn, ownOf}
+use Rattle.plan.specs.Plan.{isClient, ownIn, ownOf}
 use Rattle.plan.proofs.Laws.{own-most, own-round}
 
 -- a plan's frame as one client sees it
@@ -41,10 +39,10 @@ slots-small plan c m e l = omega (arith, count-small (plan .owners) (plan .f) c 
 -- ---- one slot on
 
 pub count-on : (owners : List ℕ) (f c s j w at o : ℕ) → w ≡ within (ownIn owners f c) s j → at ≡ (s + j) % f
-    → o ≡ pick (eqb (getD owners at 0) c) 1 0 → w + o ≡ within (ownIn owners f c) s (j + 1)
+    → o ≡ isClient c (getD owners at 0) → w + o ≡ within (ownIn owners f c) s (j + 1)
 unfolding ownIn
 count-on owners f c s j w at o e p h =
-    let here : o ≡ ownIn owners f c (s + j) = h ∙ ap (λ (x : ℕ). pick (eqb (getD owners x 0) c) 1 0) p in
+    let here : o ≡ ownIn owners f c (s + j) = h ∙ ap (λ (x : ℕ). isClient c (getD owners x 0)) p in
     omega (arith, within-more (ownIn owners f c) s j)
 
 pub place-first : (f at : ℕ) → at < f → at ≡ (0 + at) % f

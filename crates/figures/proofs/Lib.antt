@@ -1,3 +1,5 @@
+-- The laws of `figures`: a file rests only on those before it.
+-- Assumes nothing.
 pub mod Laws
 pub mod Questions
 pub mod Answers

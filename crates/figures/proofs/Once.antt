@@ -14,13 +14,13 @@ use Rattle.figures.specs.Figures.{IsFigure, IsFigures, IsWaitFor}
 use Rattle.figures.proofs.Answers.{given-fine, refused-not-fine, wait-given-fine, wait-refused-not-fine}
 use Rattle.figures.proofs.Answers.{given-waits}
 
-made-alike : (m m′ L L′ : ℕ) → m ≡ m′ → L ≡ L′
+figure-alike : (m m′ L L′ : ℕ) → m ≡ m′ → L ≡ L′
     → _≡_ {A = Figure} (record { slots = m; scaled = L }) (record { slots = m′; scaled = L′ })
-made-alike m m′ L L′ e h = rw (e, h)
+figure-alike m m′ L L′ e h = rw (e, h)
 
 pub figure-one : {own : ℕ → ℕ} {f : ℕ} (a b : Figure) → IsFigure own f a → IsFigure own f b → a ≡ b
 figure-one a b is is′ =
-    made-alike _ _ _ _ (is .slots ∙ sym (is′ .slots)) (scaled-one (is .scaled) (is′ .scaled))
+    figure-alike _ _ _ _ (is .slots ∙ sym (is′ .slots)) (scaled-one (is .scaled) (is′ .scaled))
 
 module _ (plan : Plan) (c : ℕ) where
   pub figures-once : (r r′ : Figures) → IsFigures plan c r → IsFigures plan c r′ → r ≡ r′

@@ -1,2 +1,3 @@
+-- The definitions of `figures`: a file rests only on those before it.
 pub mod Check
 pub mod Figures

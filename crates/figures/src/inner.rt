@@ -9,11 +9,9 @@ use records::refusal;
 use records::wide;
 ghost use mathlib.Core.Path.{_≡_};
 ghost use Prim.Native.Nat.{_-_, _*_, _≤_, _<_, max};
-ghost use lib.Dec.{eqb};
 ghost use Rattle.frame.specs.Frame.{slotsOf, IsScaled, IsWait};
 ghost use Rattle.frame.specs.Largest.{lackFrom};
-ghost use Rattle.records.specs.First.{pick};
-ghost use Rattle.plan.specs.Plan.{ownOf};
+ghost use Rattle.plan.specs.Plan.{isClient, ownOf};
 ghost use Rattle.figures.specs.Check.{askedCheck, mostWaiting};
 ghost use Rattle.figures.specs.Figures.{IsFigure};
 
@@ -28,7 +26,7 @@ pub fn check_asked(plan: Plan, client: usize) -> Outcome
 
 // 1 where a slot's owner is the client, else 0.
 pub fn owned_by(owner: u8, client: usize) -> usize
-    ensures { λ r. ⌜ r ≡ pick (eqb owner client) 1 0 ⌝ }
+    ensures { λ r. ⌜ r ≡ isClient client owner ⌝ }
 {
     if wide(owner) == client { 1 } else { 0 }
 }

@@ -1,3 +1,5 @@
+-- The laws of `frame`: a file rests only on those before it.
+-- Assumes nothing.
 pub mod Within
 pub mod Scaled
 pub mod Limits

@@ -55,10 +55,11 @@ module _ (rule : Rule) (own : ℕ → ℕ) where
   left-room law s v [] l = l
   left-room law s v (x ∷ xs) l = left-room law (suc s) (after rule (own s) v x) xs (omega (arith, law .room v x l))
 
-  most-served : (s v : ℕ) (xs : List ℕ) → served rule own s v xs ≤ within own s (length xs)
+  -- no more often than the client owns a slot
+  run-served-most : (s v : ℕ) (xs : List ℕ) → served rule own s v xs ≤ within own s (length xs)
   unfolding total within
-  most-served s v [] = omega arith
-  most-served s v (x ∷ xs) = omega (arith, most-served (suc s) (after rule (own s) v x) xs)
+  run-served-most s v [] = omega arith
+  run-served-most s v (x ∷ xs) = omega (arith, run-served-most (suc s) (after rule (own s) v x) xs)
 
   -- ---- a part of a run is a run
 
@@ -90,7 +91,7 @@ module _ (rule : Rule) (own : ℕ → ℕ) where
   pub served-most : (s v : ℕ) (xs : List ℕ) (i j : ℕ) → i + j ≤ length xs
       → servedIn rule own s v xs i j ≤ within own (s + i) j
   served-most s v xs i j fits =
-      rw (part-length xs i j fits) at (most-served (s + i) (left rule own s v (take i xs)) (take j (drop i xs)))
+      rw (part-length xs i j fits) at (run-served-most (s + i) (left rule own s v (take i xs)) (take j (drop i xs)))
 
   pub served-all : ((s : ℕ) → own s ≤ 1) → (s v : ℕ) (xs : List ℕ)
       → ((d : ℕ) → d < length xs → 0 < pending rule own s v xs d) → served rule own s v xs ≡ within own s (length xs)

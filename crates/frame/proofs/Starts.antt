@@ -18,6 +18,7 @@ use Rattle.frame.proofs.Scaled.{scaled-is}
 abbrev own : ℕ → ℕ
 own s = 1 - s % 3 / 2
 
+-- what arrives in six slots
 abbrev arrivals : List ℕ
 arrivals = 0 ∷ 1 ∷ 1 ∷ 0 ∷ 1 ∷ 1 ∷ []
 

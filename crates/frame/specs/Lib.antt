@@ -1,3 +1,4 @@
+-- The definitions of `frame`: a file rests only on those before it.
 pub mod Frame
 pub mod Largest
 pub mod Queue

@@ -26,7 +26,7 @@ pub record Lawful (rule : Rule) : Type 0 where
 abbrev pub oneSlot : Rule
 oneSlot = record { takes = λ v x. min x (mostPending - v); turns = λ v x. x - min x (mostPending - v) }
 
--- a list of arrivals, slot by slot
+-- a list of a client's arrivals, slot by slot, each 0 to 255
 abbrev pub Arrivals : List ℕ → Type 0
 Arrivals xs = (d : ℕ) → getD xs d 0 ≤ mostArriving
 

@@ -138,25 +138,25 @@ module _ (plan : Plan) (from to : ℕ) where
 
 -- ---- answers
 
-made-alike : (v v′ : Verdict) (c c′ s s′ j j′ : ℕ) → (v ≡ v′) × (c ≡ c′) × (s ≡ s′) × (j ≡ j′)
+judgement-alike : (v v′ : Verdict) (c c′ s s′ j j′ : ℕ) → (v ≡ v′) × (c ≡ c′) × (s ≡ s′) × (j ≡ j′)
     → _≡_ {A = Judgement}
     (record { client = c; verdict = v; start = s; length = j })
     (record { client = c′; verdict = v′; start = s′; length = j′ })
-made-alike v v′ c c′ s s′ j j′ e = rw (e .0, e .1, e .2, e .3)
+judgement-alike v v′ c c′ s s′ j j′ e = rw (e .0, e .1, e .2, e .3)
 
 pub judged-once : (plan : Plan) (r r′ : Judged) → IsJudged plan r → IsJudged plan r′ → r ≡ r′
 judged-once plan (judged.Given a) (judged.Given b) is is′ =
-    ap judged.Given (made-alike _ _ _ _ _ _ _ _
+    ap judged.Given (judgement-alike _ _ _ _ _ _ _ _
     (judgement-one plan 0 (plan .n) (a .verdict) (b .verdict) _ _ _ _ _ _ (is .1) (is′ .1)))
 judged-once plan (judged.Given a) (judged.Refused k) is is′ = refused-fine (planCheck plan) k is′ (is .0)
 judged-once plan (judged.Refused k) (judged.Given b) is is′ = refused-fine (planCheck plan) k is (is′ .0)
 judged-once plan (judged.Refused k) (judged.Refused k′) is is′ =
     ap judged.Refused (refused-number (planCheck plan) k is ∙ sym (refused-number (planCheck plan) k′ is′))
 
-pub verdict-once : (plan : Plan) (c : ℕ) (r r′ : Verdicts) → IsVerdictOf plan c r → IsVerdictOf plan c r′ → r ≡ r′
-verdict-once plan c (verdicts.Given a) (verdicts.Given b) is is′ =
+pub verdicts-once : (plan : Plan) (c : ℕ) (r r′ : Verdicts) → IsVerdictOf plan c r → IsVerdictOf plan c r′ → r ≡ r′
+verdicts-once plan c (verdicts.Given a) (verdicts.Given b) is is′ =
     ap verdicts.Given (verdict-one _ _ _ a b (is .1) (is′ .1))
-verdict-once plan c (verdicts.Given a) (verdicts.Refused k) is is′ = refused-fine (askedCheck plan c) k is′ (is .0)
-verdict-once plan c (verdicts.Refused k) (verdicts.Given b) is is′ = refused-fine (askedCheck plan c) k is (is′ .0)
-verdict-once plan c (verdicts.Refused k) (verdicts.Refused k′) is is′ =
+verdicts-once plan c (verdicts.Given a) (verdicts.Refused k) is is′ = refused-fine (askedCheck plan c) k is′ (is .0)
+verdicts-once plan c (verdicts.Refused k) (verdicts.Given b) is is′ = refused-fine (askedCheck plan c) k is (is′ .0)
+verdicts-once plan c (verdicts.Refused k) (verdicts.Refused k′) is is′ =
     ap verdicts.Refused (refused-number (askedCheck plan c) k is ∙ sym (refused-number (askedCheck plan c) k′ is′))

@@ -49,9 +49,9 @@ module _ (plan other : Plan) (same : Same plan other) (f> : 0 < plan .f) where
       (failure-same from to c l (λ x own f. hasRate x own f ≡ false) (h .0), h .1, h .2)
   judgement-same from to l Late c s j h = failure-same from to c l (λ x own f. IsLate x own f s j) h
 
-pub verdict-same : (plan other : Plan) → Same plan other → (c : ℕ) (r : Verdicts) → IsVerdictOf plan c r
+pub verdicts-same : (plan other : Plan) → Same plan other → (c : ℕ) (r : Verdicts) → IsVerdictOf plan c r
     → IsVerdictOf other c r
-verdict-same plan other same c (verdicts.Given verdict) is =
+verdicts-same plan other same c (verdicts.Given verdict) is =
     let asked = asked-fine plan c (is .0) in
     let f> = asked .0 .bounds .f-low in
     let place : c - 1 + 1 ≡ c = omega (arith, asked .1) in
@@ -59,7 +59,7 @@ verdict-same plan other same c (verdicts.Given verdict) is =
     let i< : c - 1 < plan .n = omega (arith, asked .1, asked .2) in
     let there = client-same plan other same f> P (c - 1) i< (rw place (is .1)) in
     (sym (asked-check-same plan other same c) ∙ is .0, rw place at there)
-verdict-same plan other same c (verdicts.Refused k) is = rw (asked-check-same plan other same c) at is
+verdicts-same plan other same c (verdicts.Refused k) is = rw (asked-check-same plan other same c) at is
 
 pub judged-same : (plan other : Plan) → Same plan other → (r : Judged) → IsJudged plan r → IsJudged other r
 judged-same plan other same (judged.Given found) is =

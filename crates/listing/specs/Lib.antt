@@ -1,1 +1,2 @@
+-- The definitions of `listing`: a file rests only on those before it.
 pub mod Listing

@@ -17,8 +17,8 @@ use Rattle.records.proofs.Lists.{get-padded, padded-same}
 use Rattle.plan.specs.declared.Client.{Client}
 use Rattle.plan.specs.declared.Plan.{Plan}
 use Rattle.plan.specs.Plan.{noClient, clientOf, ownerOf, isClient, ownIn, ownOf, Same, used}
-use Rattle.plan.specs.Check.{clientCheck, ownerCheck, clientStep, requirementsCheck}
-use Rattle.plan.specs.Check.{ownerStep, ownersCheck, planCheck}
+use Rattle.plan.specs.Check.{clientCheck, ownerCheck, clientCheckOf, requirementsCheck}
+use Rattle.plan.specs.Check.{ownerCheckOf, ownersCheck, planCheck}
 
 -- ---- one check
 
@@ -49,6 +49,7 @@ owner-pass owner n offset h = simp (le-leb owner n h)
 
 -- ---- the whole: a plan passes exactly when it is in bounds
 
+-- f, n and the clients' requirements are as they may be
 pub record InBounds (plan : Plan) : Type 0 where
   pub f-low : 1 ≤ plan .f
   pub f-high : plan .f ≤ 64
@@ -56,12 +57,13 @@ pub record InBounds (plan : Plan) : Type 0 where
   pub n-high : plan .n ≤ 8
   pub required : (i : ℕ) → i < plan .n → Required (clientOf plan i)
 
+-- and so are the owners
 pub record Checked (plan : Plan) : Type 0 where
   pub bounds : InBounds plan
   pub owned : (x : ℕ) → x < plan .f → ownerOf plan x ≤ plan .n
 
 pub requirements-fine : (plan : Plan) → requirementsCheck plan ≡ Fine → InBounds plan
-unfolding requirementsCheck clientStep
+unfolding requirementsCheck clientCheckOf
 requirements-fine plan h =
     let a = both-fine _ _ h in
     let b = both-fine _ _ (a .1) in
@@ -72,32 +74,32 @@ requirements-fine plan h =
       f-high = f .1;
       n-low = n .0;
       n-high = n .1;
-      required = λ i l. client-fine (clientOf plan i) 0 (first-fine (clientStep plan) (plan .n) (b .1) i l);
+      required = λ i l. client-fine (clientOf plan i) 0 (first-fine (clientCheckOf plan) (plan .n) (b .1) i l);
     }
 
 pub requirements-pass : (plan : Plan) → InBounds plan → requirementsCheck plan ≡ Fine
-unfolding requirementsCheck clientStep
+unfolding requirementsCheck clientCheckOf
 requirements-pass plan b =
     rw (
       range-pass (plan .f) 64 refusal.frame (b .f-low) (b .f-high),
       range-pass (plan .n) 8 refusal.count (b .n-low) (b .n-high),
     )
-    (first-all (clientStep plan) (plan .n) (λ i l. client-pass (clientOf plan i) 0 (b .required i l)))
+    (first-all (clientCheckOf plan) (plan .n) (λ i l. client-pass (clientOf plan i) 0 (b .required i l)))
 
 pub plan-fine : (plan : Plan) → planCheck plan ≡ Fine → Checked plan
-unfolding planCheck ownersCheck ownerStep
+unfolding planCheck ownersCheck ownerCheckOf
 plan-fine plan h =
     let a = both-fine _ _ h in
     record {
       bounds = requirements-fine plan (a .0);
-      owned = λ x l. owner-fine (ownerOf plan x) (plan .n) 0 (first-fine (ownerStep plan) (plan .f) (a .1) x l);
+      owned = λ x l. owner-fine (ownerOf plan x) (plan .n) 0 (first-fine (ownerCheckOf plan) (plan .f) (a .1) x l);
     }
 
 pub plan-pass : (plan : Plan) → Checked plan → planCheck plan ≡ Fine
-unfolding planCheck ownersCheck ownerStep
+unfolding planCheck ownersCheck ownerCheckOf
 plan-pass plan c =
     rw (requirements-pass plan (c .bounds))
-    (first-all (ownerStep plan) (plan .f) (λ x l. owner-pass (ownerOf plan x) (plan .n) 0 (c .owned x l)))
+    (first-all (ownerCheckOf plan) (plan .f) (λ x l. owner-pass (ownerOf plan x) (plan .n) 0 (c .owned x l)))
 
 -- ---- plans that are the same
 
@@ -123,18 +125,18 @@ same-used plan other s =
 -- plans with the same f, n and requirements are refused alike before their owners are looked at
 pub requirements-same : (plan other : Plan) → plan .f ≡ other .f → plan .n ≡ other .n
     → ((i : ℕ) → i < plan .n → clientOf plan i ≡ clientOf other i) → requirementsCheck plan ≡ requirementsCheck other
-unfolding requirementsCheck clientStep
+unfolding requirementsCheck clientCheckOf
 requirements-same plan other frame count clients =
-    let c = first-same (clientStep plan) (clientStep other) (plan .n)
+    let c = first-same (clientCheckOf plan) (clientCheckOf other) (plan .n)
     (λ i l. ap (λ (x : Client). clientCheck x 0) (clients i l)) in
     rw (c, frame, count)
 
 -- the same plan is refused alike
 pub same-check : (plan other : Plan) → Same plan other → planCheck plan ≡ planCheck other
-unfolding planCheck ownersCheck ownerStep
+unfolding planCheck ownersCheck ownerCheckOf
 same-check plan other s =
     let r = requirements-same plan other (s .frame) (s .count) (s .clients) in
-    let o = first-same (ownerStep plan) (ownerStep other) (plan .f) (λ x l. rw (s .owners x l, s .count)) in
+    let o = first-same (ownerCheckOf plan) (ownerCheckOf other) (plan .f) (λ x l. rw (s .owners x l, s .count)) in
     rw (r, o, s .frame)
 
 -- ---- a client's slots

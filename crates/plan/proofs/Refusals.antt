@@ -14,26 +14,26 @@ use Rattle.records.proofs.Refusals.{range-unread}
 use Rattle.plan.specs.declared.Client.{Client}
 use Rattle.plan.specs.declared.Plan.{Plan}
 use Rattle.plan.specs.Plan.{clientOf, ownerOf}
-use Rattle.plan.specs.Check.{frameCheck, countCheck, clientCheck, ownerCheck, clientStep, requirementsCheck}
-use Rattle.plan.specs.Check.{ownerStep, ownersCheck, planCheck}
+use Rattle.plan.specs.Check.{frameCheck, countCheck, clientCheck, ownerCheck, clientCheckOf, requirementsCheck}
+use Rattle.plan.specs.Check.{ownerCheckOf, ownersCheck, planCheck}
 
 -- what holds of what each check finds holds of what the requirements' check finds
 requirements-each : (P : Outcome → Type 0) → P Fine → ((f : ℕ) → P (frameCheck f)) → ((n : ℕ) → P (countCheck n))
     → ((c : Client) → P (clientCheck c 0)) → (plan : Plan) → P (requirementsCheck plan)
-unfolding requirementsCheck clientStep
+unfolding requirementsCheck clientCheckOf
 requirements-each P z frame count client plan =
-    let clients : Outcome = firstOf (clientStep plan) (plan .n) in
+    let clients : Outcome = firstOf (clientCheckOf plan) (plan .n) in
     or-each P (frameCheck (plan .f)) (orElse (countCheck (plan .n)) clients) (frame (plan .f))
     (or-each P (countCheck (plan .n)) clients (count (plan .n))
-    (first-each P z (clientStep plan) (λ i. client (clientOf plan i)) (plan .n)))
+    (first-each P z (clientCheckOf plan) (λ i. client (clientOf plan i)) (plan .n)))
 
 -- and with the owners' of what the plan's check finds
 plan-each : (P : Outcome → Type 0) → P Fine → ((owner n : ℕ) → P (ownerCheck owner n 0)) → (plan : Plan)
     → P (requirementsCheck plan) → P (planCheck plan)
-unfolding planCheck ownersCheck ownerStep
+unfolding planCheck ownersCheck ownerCheckOf
 plan-each P z owner plan requirements =
     or-each P (requirementsCheck plan) (ownersCheck plan) requirements
-    (first-each P z (ownerStep plan) (λ x. owner (ownerOf plan x) (plan .n)) (plan .f))
+    (first-each P z (ownerCheckOf plan) (λ x. owner (ownerOf plan x) (plan .n)) (plan .f))
 
 -- ---- numbers
 
@@ -75,6 +75,7 @@ pub owner-within : (most owner n offset : ℕ) → offset ≤ most → offsetOf 
 unfolding ownerCheck
 owner-within most owner n offset h = need-within most (leb owner n) refusal.owner offset h
 
+-- the offset outside reading
 abbrev unread : Outcome → Type 0
 unread o = offsetOf o ≡ 0
 

@@ -26,21 +26,21 @@ unfoldable pub ownerCheck : ℕ → ℕ → ℕ → Outcome
 ownerCheck owner n offset = need (leb owner n) refusal.owner offset
 
 -- 8 and 9 of client i + 1 of a plan
-unfoldable pub clientStep : Plan → ℕ → Outcome
-clientStep plan i = clientCheck (clientOf plan i) 0
+unfoldable pub clientCheckOf : Plan → ℕ → Outcome
+clientCheckOf plan i = clientCheck (clientOf plan i) 0
 
 -- the requirements: "5, 6, then 8 and 9 client by client"
 unfoldable pub requirementsCheck : Plan → Outcome
 requirementsCheck plan =
-    orElse (frameCheck (plan .f)) (orElse (countCheck (plan .n)) (firstOf (clientStep plan) (plan .n)))
+    orElse (frameCheck (plan .f)) (orElse (countCheck (plan .n)) (firstOf (clientCheckOf plan) (plan .n)))
 
 -- 10 of slot x of a plan
-unfoldable pub ownerStep : Plan → ℕ → Outcome
-ownerStep plan x = ownerCheck (ownerOf plan x) (plan .n) 0
+unfoldable pub ownerCheckOf : Plan → ℕ → Outcome
+ownerCheckOf plan x = ownerCheck (ownerOf plan x) (plan .n) 0
 
 -- the owners: "then 10 slot by slot"
 unfoldable pub ownersCheck : Plan → Outcome
-ownersCheck plan = firstOf (ownerStep plan) (plan .f)
+ownersCheck plan = firstOf (ownerCheckOf plan) (plan .f)
 
 -- the whole plan: "All else that takes a plan checks it first"
 unfoldable pub planCheck : Plan → Outcome

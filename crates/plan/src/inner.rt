@@ -8,7 +8,7 @@ use records::wide;
 ghost use mathlib.Core.Path.{_≡_};
 ghost use Prim.Native.Nat.{_≤_};
 ghost use Rattle.records.specs.First.{firstOf};
-ghost use Rattle.plan.specs.Check.{frameCheck, countCheck, clientCheck, ownerCheck, clientStep, ownersCheck};
+ghost use Rattle.plan.specs.Check.{frameCheck, countCheck, clientCheck, ownerCheck, clientCheckOf, ownersCheck};
 
 // 5: f is 1 to 64.
 pub fn check_frame(f: usize) -> Outcome
@@ -53,7 +53,7 @@ pub fn check_owner(owner: u8, n: usize, offset: usize) -> Outcome
 // 8 and 9, client by client.
 pub fn check_clients(plan: Plan) -> Outcome
     requires { ⌜ plan .n ≤ 8 ⌝ }
-    ensures { λ r. ⌜ r ≡ firstOf (clientStep plan) (plan .n) ⌝ }
+    ensures { λ r. ⌜ r ≡ firstOf (clientCheckOf plan) (plan .n) ⌝ }
 {
     let n = plan.n;
     let clients = plan.clients;

@@ -20,8 +20,7 @@ use Rattle.records.proofs.Checks.{false-true, refused-fine}
 use Rattle.plan.specs.declared.Client.{Client}
 use Rattle.plan.specs.declared.Plan.{Plan}
 use Rattle.plan.specs.Plan.{clientOf, ownOf}
-use Rattle.plan.proofs.Laws.{Checked, requirements-fine, requirements-pass, requirements-same}
-use Rattle.plan.proofs.Laws.{plan-fine, plan-pass}
+use Rattle.plan.proofs.Laws.{Checked, requirements-fine, requirements-pass, requirements-same, plan-fine, plan-pass}
 use Rattle.figures.specs.declared.Figure.{Figure}
 use Rattle.figures.specs.declared.Figures.the-variants as figures
 use Rattle.figures.specs.Figures.{IsFigures}

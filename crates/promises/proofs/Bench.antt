@@ -22,7 +22,8 @@ use Rattle.records.proofs.Lists.{get-padded}
 use Rattle.plan.specs.declared.Client.{Client}
 use Rattle.plan.specs.declared.Plan.{Plan}
 use Rattle.plan.specs.Plan.{noClient, clientOf, ownerOf, ownIn, ownOf}
-use Rattle.plan.specs.Check.{clientCheck, ownerCheck, clientStep, requirementsCheck, ownerStep, ownersCheck, planCheck}
+use Rattle.plan.specs.Check.{clientCheck, ownerCheck, clientCheckOf, requirementsCheck, ownerCheckOf}
+use Rattle.plan.specs.Check.{ownersCheck, planCheck}
 use Rattle.plan.proofs.Laws.{Required, Checked, plan-fine}
 use Rattle.figures.specs.declared.Figure.{Figure}
 use Rattle.figures.specs.declared.Figures.{Figures}
@@ -46,38 +47,38 @@ use Rattle.search.specs.declared.Answer.the-variants as answer
 use Rattle.search.specs.Search.{searchCheck, sizeCheck, AcceptedIn, SearchedAs}
 use Rattle.search.proofs.Questions.{search-fine}
 use Rattle.arbiter.specs.Step.{ruleFor, servedBy, lessOne, advanced, positionCheck, arrivalsCheck, stepCheck, stepOf}
-use Rattle.promises.specs.Bench.{Schedule, among, tablePlan, searchPlan, little, Question, figure, waiting}
+use Rattle.promises.specs.Bench.{Schedule, among, schedulePlan, searchPlan, little, Question, figure, waiting}
 use Rattle.promises.specs.Bench.{accepted, late, found, none, steps, Right, AllRight, questions}
-use Rattle.promises.proofs.Tests.{allBelow, fineTest, fine-tested, okTest, ok-tested, lateTest}
-use Rattle.promises.proofs.Tests.{late-tested, acceptTest, everyTable, lexTest, betterTest, noneTest}
-use Rattle.promises.proofs.Tests.{none-tested, bestTest, best-tested, numbersTest, serviceTest, stepTest}
-use Rattle.promises.proofs.Tests.{step-tested}
+use Rattle.promises.proofs.Tests.{allBelow, fineTest, fine-tested, okTest, ok-tested, lateTest, late-tested}
+use Rattle.promises.proofs.Tests.{acceptTest, everyTable, lexTest, betterTest, noneTest, none-tested, bestTest}
+use Rattle.promises.proofs.Tests.{best-tested, numbersTest, serviceTest, stepTest, step-tested}
 
 -- ---- a schedule as a plan
 
 -- the client's slots, read off the schedule
-slotAt : Schedule → ℕ → ℕ
-slotAt t s = pick (among (s % t .f) (t .slots)) 1 0
+ownBy : Schedule → ℕ → ℕ
+ownBy t s = pick (among (s % t .f) (t .slots)) 1 0
 
 one-by : (b : Bool) → pick (eqb (pick b 1 0) 1) 1 0 ≡ pick {A = ℕ} b 1 0
 one-by true = refl
 one-by false = refl
 
-owner-table : (client : Client) (t : Schedule) (x : ℕ) → x < t .f
-    → ownerOf (tablePlan client t) x ≡ pick (among x (t .slots)) 1 0
-unfolding tablePlan
-owner-table client t x l = get-padded (λ y. pick (among y (t .slots)) 1 0) (t .f) 64 0 x l
+owner-schedule : (client : Client) (t : Schedule) (x : ℕ) → x < t .f
+    → ownerOf (schedulePlan client t) x ≡ pick (among x (t .slots)) 1 0
+unfolding schedulePlan
+owner-schedule client t x l = get-padded (λ y. pick (among y (t .slots)) 1 0) (t .f) 64 0 x l
 
-own-table : (client : Client) (t : Schedule) → 1 ≤ t .f → ownOf (tablePlan client t) 1 ≡ slotAt t
-unfolding tablePlan slotAt ownIn
-own-table client t f> =
+own-schedule : (client : Client) (t : Schedule) → 1 ≤ t .f → ownOf (schedulePlan client t) 1 ≡ ownBy t
+unfolding schedulePlan ownBy ownIn
+own-schedule client t f> =
     fun-ext (λ s.
     let x : ℕ = s % t .f in
-    rw (owner-table client t x (mod-lt s f>)) (one-by (among x (t .slots))))
+    rw (owner-schedule client t x (mod-lt s f>)) (one-by (among x (t .slots))))
 
-table-checked : (client : Client) (t : Schedule) → Required client → 1 ≤ t .f → t .f ≤ 64 → Checked (tablePlan client t)
-unfolding tablePlan
-table-checked client t ok f> f≤ =
+schedule-checked : (client : Client) (t : Schedule) → Required client → 1 ≤ t .f → t .f ≤ 64
+    → Checked (schedulePlan client t)
+unfolding schedulePlan
+schedule-checked client t ok f> f≤ =
     record {
       bounds =
           record {
@@ -87,11 +88,12 @@ table-checked client t ok f> f≤ =
             n-high = omega arith;
             required = λ i l. rw (get-padded (λ j. client) 1 8 noClient i l) ok;
           };
-      owned = λ x l. rw (owner-table client t x l) (one-or-none (among x (t .slots)));
+      owned = λ x l. rw (owner-schedule client t x l) (one-or-none (among x (t .slots)));
     }
 
 -- ---- the test of a question
 
+-- all of a list are true
 abbrev every : List Bool → Bool
 every [] = true
 every (b ∷ bs) = pick b (every bs) false
@@ -101,8 +103,8 @@ abbrev figureTest : Schedule → ℕ → ℕ → Bool
 figureTest t m L =
     every (
     leb 1 (t .f) ∷ leb (t .f) 64 ∷ leb 1 m
-    ∷ eqb (slotsOf (slotAt t) (t .f)) m
-    ∷ eqb (scaledOf (slotAt t) (t .f) m) L
+    ∷ eqb (slotsOf (ownBy t) (t .f)) m
+    ∷ eqb (scaledOf (ownBy t) (t .f) m) L
     ∷ []
     )
 
@@ -113,12 +115,12 @@ waitTest f m L k slots = every (leb 1 k ∷ leb k mostWaiting ∷ eqb (waitOf f 
 test : Question → Bool
 test (figure t m L) = figureTest t m L
 test (waiting t k slots) =
-    let m = slotsOf (slotAt t) (t .f) in
-    let L = scaledOf (slotAt t) (t .f) m in
+    let m = slotsOf (ownBy t) (t .f) in
+    let L = scaledOf (ownBy t) (t .f) m in
     pick (figureTest t m L) (waitTest (t .f) m L k slots) false
-test (accepted t client) = pick (fineTest (planCheck (tablePlan client t))) (okTest client (slotAt t) (t .f)) false
+test (accepted t client) = pick (fineTest (planCheck (schedulePlan client t))) (okTest client (ownBy t) (t .f)) false
 test (late t client s j) =
-    pick (fineTest (planCheck (tablePlan client t))) (lateTest client (slotAt t) (t .f) s j) false
+    pick (fineTest (planCheck (schedulePlan client t))) (lateTest client (ownBy t) (t .f) s j) false
 test (found f n client table) =
     pick (fineTest (searchCheck (searchPlan f n client))) (bestTest (searchPlan f n client) table) false
 test (none f n client) = pick (fineTest (searchCheck (searchPlan f n client))) (noneTest (searchPlan f n client)) false
@@ -130,68 +132,68 @@ record Figured (t : Schedule) (m L : ℕ) : Type 0 where
   f-low : 1 ≤ t .f
   f-high : t .f ≤ 64
   m-low : 1 ≤ m
-  slots : slotsOf (slotAt t) (t .f) ≡ m
-  scaled : scaledOf (slotAt t) (t .f) m ≡ L
+  slots : slotsOf (ownBy t) (t .f) ≡ m
+  scaled : scaledOf (ownBy t) (t .f) m ≡ L
 
 figured : (t : Schedule) (m L : ℕ) → figureTest t m L ≡ true → Figured t m L
 figured t m L h =
     let a = both-true (leb 1 (t .f)) _ h in
     let b = both-true (leb (t .f) 64) _ (a .1) in
     let c = both-true (leb 1 m) _ (b .1) in
-    let d = both-true (eqb (slotsOf (slotAt t) (t .f)) m) _ (c .1) in
-    let e = both-true (eqb (scaledOf (slotAt t) (t .f) m) L) true (d .1) in
+    let d = both-true (eqb (slotsOf (ownBy t) (t .f)) m) _ (c .1) in
+    let e = both-true (eqb (scaledOf (ownBy t) (t .f) m) L) true (d .1) in
     record {
       f-low = leb-true 1 (t .f) (a .0);
       f-high = leb-true (t .f) 64 (b .0);
       m-low = leb-true 1 m (c .0);
-      slots = eqb-true (slotsOf (slotAt t) (t .f)) m (d .0);
-      scaled = eqb-true (scaledOf (slotAt t) (t .f) m) L (e .0);
+      slots = eqb-true (slotsOf (ownBy t) (t .f)) m (d .0);
+      scaled = eqb-true (scaledOf (ownBy t) (t .f) m) L (e .0);
     }
 
 -- ---- so the answer is right
 
 module _ (t : Schedule) (m L : ℕ) (facts : Figured t m L) where
   plan : Plan
-  plan = tablePlan little t
+  plan = schedulePlan little t
 
-  own : ownOf plan 1 ≡ slotAt t
+  own : ownOf plan 1 ≡ ownBy t
   unfolding plan
-  own = own-table little t (facts .f-low)
+  own = own-schedule little t (facts .f-low)
 
   its-figure : Figure
   its-figure = record { slots = m; scaled = L }
 
   asked : Asked plan 1
-  unfolding plan tablePlan
+  unfolding plan schedulePlan
   asked =
       let ok : Required little = record { p-low = omega arith; p-high = omega arith; b-low = omega arith } in
       record {
-        checked = table-checked little t ok (facts .f-low) (facts .f-high);
+        checked = schedule-checked little t ok (facts .f-low) (facts .f-high);
         low = omega arith;
         high = omega arith;
         owns = rw (own, facts .slots) (facts .m-low);
       }
 
-  worked : scaledOf (ownOf plan 1) (t .f) (slotsOf (ownOf plan 1) (t .f)) ≡ L
-  worked = rw (own, facts .slots) (facts .scaled)
+  scaled-worked : scaledOf (ownOf plan 1) (t .f) (slotsOf (ownOf plan 1) (t .f)) ≡ L
+  scaled-worked = rw (own, facts .slots) (facts .scaled)
 
   figure-is : IsFigure (ownOf plan 1) (t .f) its-figure
-  unfolding plan tablePlan its-figure
+  unfolding plan schedulePlan its-figure
   figure-is =
       record {
         slots = rw own (sym (facts .slots));
-        scaled = rw worked at (scaled-is (frame-of plan 1 (facts .f-low)));
+        scaled = rw scaled-worked at (scaled-is (frame-of plan 1 (facts .f-low)));
       }
 
   figure-right : Right (figure t m L)
-  unfolding plan tablePlan its-figure
+  unfolding plan schedulePlan its-figure
   figure-right r is =
       let allowed = figures-given plan 1 its-figure (figure-pass plan 1 asked) figure-is in
       let e = figures-once plan 1 r (figures.Given its-figure) is allowed in
       (ap figuresNumber e, ap (λ (x : Figures). figureIn x .slots) e, ap (λ (x : Figures). figureIn x .scaled) e)
 
   wait-right : (k slots : ℕ) → waitTest (t .f) m L k slots ≡ true → Right (waiting t k slots)
-  unfolding plan tablePlan its-figure
+  unfolding plan schedulePlan its-figure
   wait-right k slots h r is =
       let a = both-true (leb 1 k) _ h in
       let b = both-true (leb k mostWaiting) _ (a .1) in
@@ -204,44 +206,44 @@ module _ (t : Schedule) (m L : ℕ) (facts : Figured t m L) where
 
 -- ---- judging a schedule, and the search
 
-module _ (t : Schedule) (client : Client) (tested : fineTest (planCheck (tablePlan client t)) ≡ true) where
+module _ (t : Schedule) (client : Client) (tested : fineTest (planCheck (schedulePlan client t)) ≡ true) where
   judged-plan : Plan
-  judged-plan = tablePlan client t
+  judged-plan = schedulePlan client t
 
-  fine : planCheck judged-plan ≡ Fine
+  judged-fine : planCheck judged-plan ≡ Fine
   unfolding judged-plan
-  fine = fine-tested (planCheck judged-plan) tested
+  judged-fine = fine-tested (planCheck judged-plan) tested
 
   f-low : 1 ≤ t .f
-  unfolding judged-plan tablePlan
-  f-low = plan-fine judged-plan fine .bounds .f-low
+  unfolding judged-plan schedulePlan
+  f-low = plan-fine judged-plan judged-fine .bounds .f-low
 
-  table-frame : Frame (slotAt t) (t .f) (slotsOf (slotAt t) (t .f))
-  unfolding tablePlan
-  table-frame = rw (own-table client t f-low) at (frame-of (tablePlan client t) 1 f-low)
+  schedule-frame : Frame (ownBy t) (t .f) (slotsOf (ownBy t) (t .f))
+  unfolding schedulePlan
+  schedule-frame = rw (own-schedule client t f-low) at (frame-of (schedulePlan client t) 1 f-low)
 
-  -- what holds of the table's client holds of the plan's only one
-  only : (P : Client → (ℕ → ℕ) → ℕ → Type 0) → P client (slotAt t) (t .f) → (i : ℕ) → i < 1
+  -- what holds of the schedule's client holds of the plan's only one
+  only : (P : Client → (ℕ → ℕ) → ℕ → Type 0) → P client (ownBy t) (t .f) → (i : ℕ) → i < 1
       → P (clientOf judged-plan i) (ownOf judged-plan (i + 1)) (judged-plan .f)
-  unfolding judged-plan tablePlan
+  unfolding judged-plan schedulePlan
   only P h i l =
       let first : i ≡ 0 = omega arith in
-      rw (first, get-padded (λ j. client) 1 8 noClient 0 (omega arith), own-table client t f-low) h
+      rw (first, get-padded (λ j. client) 1 8 noClient 0 (omega arith), own-schedule client t f-low) h
 
-  accepted-right : okTest client (slotAt t) (t .f) ≡ true → Right (accepted t client)
-  unfolding judged-plan tablePlan
+  accepted-right : okTest client (ownBy t) (t .f) ≡ true → Right (accepted t client)
+  unfolding judged-plan schedulePlan
   accepted-right h r is =
-      let ok = ok-tested client (slotAt t) (t .f) table-frame h in
+      let ok = ok-tested client (ownBy t) (t .f) schedule-frame h in
       judged-once judged-plan r (judged.Given acceptance) is
-      (fine, (record { each = λ i low l. only IsOk ok i l }, refl, refl, refl))
+      (judged-fine, (record { each = λ i low l. only IsOk ok i l }, refl, refl, refl))
 
-  late-right : (s j : ℕ) → lateTest client (slotAt t) (t .f) s j ≡ true → Right (late t client s j)
-  unfolding judged-plan tablePlan
+  late-right : (s j : ℕ) → lateTest client (ownBy t) (t .f) s j ≡ true → Right (late t client s j)
+  unfolding judged-plan schedulePlan
   late-right s j h r is =
-      let bad = late-tested client (slotAt t) (t .f) table-frame s j h in
+      let bad = late-tested client (ownBy t) (t .f) schedule-frame s j h in
       let none-before : AllOk judged-plan 0 0 = record { each = λ i low l. absurd (omega arith) } in
       judged-once judged-plan r _ is (
-        fine,
+        judged-fine,
         first-at judged-plan 0 1 0 _ (omega arith) (omega arith) none-before
             (only (λ x own f. IsLate x own f s j) bad 0 (omega arith)),
       )
@@ -250,21 +252,21 @@ module _ (f n : ℕ) (client : Client) (facts : fineTest (searchCheck (searchPla
   searched : Plan
   searched = searchPlan f n client
 
-  passes : searchCheck searched ≡ Fine
+  searched-fine : searchCheck searched ≡ Fine
   unfolding searched
-  passes = fine-tested (searchCheck searched) facts
+  searched-fine = fine-tested (searchCheck searched) facts
 
   found-right : (table : List ℕ) → bestTest (searchPlan f n client) table ≡ true → Right (found f n client table)
   unfolding searched searchPlan
   found-right table h r is = by (r .answer) is
     where
       best : IsBest (AcceptedIn searched) f n table
-      best = best-tested searched (search-fine searched passes .bounds .f-low) table h
+      best = best-tested searched (search-fine searched searched-fine .bounds .f-low) table h
 
       by : (a : Answer) → SearchedAs searched a (r .owners) → (a ≡ answer.Found) × (take f (r .owners) ≡ table)
       by answer.Found x = (refl, best-one (AcceptedIn searched) f n _ table (x .1 .0) best)
       by answer.None x = absurd (x .1 .0 table (best .table) (best .good))
-      by (answer.Refused k) x = refused-fine (searchCheck searched) k (x .0) passes
+      by (answer.Refused k) x = refused-fine (searchCheck searched) k (x .0) searched-fine
 
   none-right : noneTest (searchPlan f n client) ≡ true → Right (none f n client)
   unfolding searched searchPlan
@@ -273,21 +275,21 @@ module _ (f n : ℕ) (client : Client) (facts : fineTest (searchCheck (searchPla
       by : (a : Answer) → SearchedAs searched a (r .owners) → a ≡ answer.None
       by answer.Found x = absurd (none-tested searched h _ (x .1 .0 .table) (x .1 .0 .good))
       by answer.None x = refl
-      by (answer.Refused k) x = refused-fine (searchCheck searched) k (x .0) passes
+      by (answer.Refused k) x = refused-fine (searchCheck searched) k (x .0) searched-fine
 
 right : (q : Question) → test q ≡ true → Right q
 unfolding test
 right (figure t m L) h = figure-right t m L (figured t m L h)
 right (waiting t k slots) h =
-    let m = slotsOf (slotAt t) (t .f) in
-    let L = scaledOf (slotAt t) (t .f) m in
+    let m = slotsOf (ownBy t) (t .f) in
+    let L = scaledOf (ownBy t) (t .f) m in
     let g = both-true (figureTest t m L) (waitTest (t .f) m L k slots) h in
     wait-right t m L (figured t m L (g .0)) k slots (g .1)
 right (accepted t client) h =
-    let g = both-true (fineTest (planCheck (tablePlan client t))) (okTest client (slotAt t) (t .f)) h in
+    let g = both-true (fineTest (planCheck (schedulePlan client t))) (okTest client (ownBy t) (t .f)) h in
     accepted-right t client (g .0) (g .1)
 right (late t client s j) h =
-    let g = both-true (fineTest (planCheck (tablePlan client t))) (lateTest client (slotAt t) (t .f) s j) h in
+    let g = both-true (fineTest (planCheck (schedulePlan client t))) (lateTest client (ownBy t) (t .f) s j) h in
     late-right t client (g .0) s j (g .1)
 right (found f n client table) h =
     let g = both-true (fineTest (searchCheck (searchPlan f n client))) (bestTest (searchPlan f n client) table) h in
@@ -299,6 +301,7 @@ right (steps plan arb xs goes) h = λ r is. is ∙ step-tested (stepOf plan arb 
 
 -- ---- all of them
 
+-- the tests of a list of questions
 abbrev testAll : List Question → Bool
 testAll [] = true
 testAll (q ∷ qs) = pick (test q) (testAll qs) false
@@ -308,9 +311,9 @@ all-right [] h = tt
 all-right (q ∷ qs) h = let g = both-true (test q) (testAll qs) h in (right q (g .0), all-right qs (g .1))
 
 pub bench : AllRight questions
-unfolding questions test slotAt scaledOf lackFrom largest lack within waitOf okTest lateTest fineTest noneTest bestTest
+unfolding questions test ownBy scaledOf lackFrom largest lack within waitOf okTest lateTest fineTest noneTest bestTest
     acceptTest everyTable allBelow betterTest lexTest owned enough covers ownIn searchPlan searchCheck sizeCheck
-    tablePlan planCheck requirementsCheck ownersCheck clientStep ownerStep clientCheck ownerCheck rangeCheck firstOf
-    firsts onto padded stepTest serviceTest numbersTest stepOf stepCheck positionCheck arrivalsCheck advanced servedBy
-    lessOne ruleFor
+    schedulePlan planCheck requirementsCheck ownersCheck clientCheckOf ownerCheckOf clientCheck ownerCheck rangeCheck
+    firstOf firsts onto padded stepTest serviceTest numbersTest stepOf stepCheck positionCheck arrivalsCheck advanced
+    servedBy lessOne ruleFor
 bench = all-right questions refl

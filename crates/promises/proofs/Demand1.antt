@@ -29,6 +29,9 @@ use Rattle.stream.specs.Read.{readCheck, planOf, planIf, readOf}
 use Rattle.stream.specs.Write.{streamOf, writeCheck, writtenBy, writtenOf, writtenNumber, writtenSize, bytesBy}
 use Rattle.stream.specs.Write.{bytesOf, Wrote}
 use Rattle.stream.specs.declared.Written.{Written}
+use Rattle.stream.proofs.Same.{same-stream}
+use Rattle.stream.proofs.Numbers.{read-numbered, write-numbered}
+use Rattle.stream.proofs.Offsets.{read-within}
 use Rattle.figures.specs.Check.{askedCheck, figureCheck, waitCheck}
 use Rattle.figures.specs.Figures.{noFigure, figuresNumber, figureIn, IsFigures, waitNumber, waitIn, IsWaitFor}
 use Rattle.figures.specs.declared.Figure.{Figure}
@@ -49,8 +52,8 @@ use Rattle.judge.specs.declared.Verdicts.{Verdicts}
 use Rattle.judge.specs.declared.Verdicts.the-variants as verdicts
 use Rattle.judge.specs.Judge.{IsJudged, judgedNumber, judgedValues, judgedVerdict, IsVerdictOf, verdictNumber}
 use Rattle.judge.specs.Judge.{verdictIn}
-use Rattle.judge.proofs.Once.{judged-once, verdict-once as verdicts-once}
-use Rattle.judge.proofs.Same.{judged-same, verdict-same as verdicts-same}
+use Rattle.judge.proofs.Once.{judged-once, verdicts-once}
+use Rattle.judge.proofs.Same.{judged-same, verdicts-same}
 use Rattle.search.specs.declared.Answer.{Answer}
 use Rattle.search.specs.declared.Answer.the-variants as answer
 use Rattle.search.specs.declared.Searched.{Searched}
@@ -71,9 +74,6 @@ use Rattle.arbiter.proofs.Laws.{step-kept as past-kept, step-none as past-none}
 use Rattle.listing.specs.Listing.{figuresText, waitText, IsReport, IsHoming}
 use Rattle.listing.proofs.Once.{report-once as one-report, homing-once as one-homing}
 use Rattle.promises.specs.Trip.{Copied}
-use Rattle.stream.proofs.Same.{same-stream}
-use Rattle.stream.proofs.Numbers.{read-numbered, write-numbered}
-use Rattle.stream.proofs.Offsets.{read-within}
 
 -- ---- any two outcomes coincide
 
@@ -397,7 +397,6 @@ verdict-refused plan c (verdicts.Given verdict) is h = absurd (h (ap numberOf (i
 verdict-refused plan c (verdicts.Refused k) is h = (refused-number (askedCheck plan c) k is, refl)
 
 -- a refused search has no table
-
 pub search-refused : (f n : ℕ) (clients : List Client) (r : Searched) → IsSearched (idlePlan f n clients) r
     → (searchedNumber (r .answer) ≡ 0 → ⊥) → r .owners ≡ replicate 64 0
 search-refused f n clients r = by (r .answer)

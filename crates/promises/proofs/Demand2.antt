@@ -42,17 +42,17 @@ use Rattle.promises.proofs.Demand1.{read-number, check-number}
 -- ---- plan files
 
 -- a read that is not refused
-given : (s : List ℕ) → numberOf (readOf s .outcome) ≡ 0 → readOf s .outcome ≡ Fine
+not-refused : (s : List ℕ) → numberOf (readOf s .outcome) ≡ 0 → readOf s .outcome ≡ Fine
 unfolding readOf
-given s h = numbered-fine 11 (readCheck s) (read-number s) h
+not-refused s h = numbered-fine 11 (readCheck s) (read-number s) h
 
 -- what is read is written back byte for byte
 pub written-back : (s : List ℕ) → Bytes s → numberOf (readOf s .outcome) ≡ 0 → streamOf (readOf s .plan) ≡ s
-written-back s b h = rewritten s b refl (given s h)
+written-back s b h = rewritten s b refl (not-refused s h)
 
 -- every plan that is read passes the checks
 pub read-checked : (s : List ℕ) → numberOf (readOf s .outcome) ≡ 0 → planCheck (readOf s .plan) ≡ Fine
-read-checked s h = reading-checked s (readOf s) refl (given s h)
+read-checked s h = reading-checked s (readOf s) refl (not-refused s h)
 
 -- what is written is read back: nothing is refused, and the plan is the same, with zeros past f and n
 pub record ReadBack (plan : Plan) (r : Reading) : Type 0 where

@@ -1,3 +1,5 @@
+-- The theorems of `promises`: a file rests only on those before it.
+-- Assumes nothing.
 pub mod Demand1
 pub mod Demand2
 pub mod Accepted

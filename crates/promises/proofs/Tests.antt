@@ -2,7 +2,7 @@
 -- same. Each says what its definition says, so that the examples are settled by working them out.
 -- Assumes nothing.
 use mathlib.Core.Path.{_≡_, refl, sym, ap, _∙_}
-use mathlib.Core.Bool.{Bool, true, false}
+use mathlib.Core.Bool.{Bool, true, false, not}
 use mathlib.Core.List.{List, [], _∷_}
 use mathlib.Core.Logic.{inl, inr, ⊎-elim}
 use Prim.Native.Nat.{ℕ, zero, suc, _+_, _≤_, _<_}
@@ -10,7 +10,7 @@ use native.Mathlib.Decide.{decLt}
 use native.Mathlib.Omega.{arith}
 use lib.Dec.{leb, ltb, eqb}
 use lib.ListN.{length, getD, List·getD-eq-default}
-use borrow.Author.Tests.{leb-true, ltb-true, eqb-true}
+use borrow.Author.Tests.{leb-true, ltb-true, eqb-true, not-true}
 use Rattle.frame.specs.Frame.{slotsOf, Frame}
 use Rattle.records.specs.First.{pick}
 use Rattle.records.specs.declared.Outcome.{Outcome}
@@ -30,10 +30,6 @@ use Rattle.arbiter.specs.declared.Service.the-variants as service
 use Rattle.arbiter.specs.declared.Stepped.{Stepped}
 
 -- ---- tests
-
-failed : (a : Bool) → pick a false true ≡ true → a ≡ false
-failed true h = false-true h
-failed false h = refl
 
 -- all of P 0, .., P (n - 1)
 unfoldable pub allBelow : ℕ → (ℕ → Bool) → Bool
@@ -88,18 +84,18 @@ module _ (x : Client) (own : ℕ → ℕ) (f : ℕ) where
   unfoldable pub lateTest : ℕ → ℕ → Bool
   lateTest s j =
       pick (hasRate x own f)
-      (pick (pick (inTime x own f s j) false true)
+      (pick (not (inTime x own f s j))
       (pick (allBelow s (λ t. allBelow f (inTime x own f t))) (allBelow j (inTime x own f s)) false) false) false
 
   pub late-tested : Frame own f (slotsOf own f) → (s j : ℕ) → lateTest s j ≡ true → IsLate x own f s j
   unfolding lateTest
   late-tested frame s j h =
       let a = both-true (hasRate x own f) _ h in
-      let b = both-true (pick (inTime x own f s j) false true) _ (a .1) in
+      let b = both-true (not (inTime x own f s j)) _ (a .1) in
       let c = both-true (allBelow s (λ t. allBelow f (inTime x own f t))) _ (b .1) in
       record {
         rate = a .0;
-        fails = failed (inTime x own f s j) (b .0);
+        fails = not-true (inTime x own f s j) (b .0);
         start = λ t i l.
             lengths-suffice x frame (a .0) t (each-below f (inTime x own f t) (each-below s _ (c .0) t l)) i;
         length = each-below j (inTime x own f s) (c .1);
@@ -107,6 +103,7 @@ module _ (x : Client) (own : ℕ → ℕ) (f : ℕ) where
 
 -- ---- a table
 
+-- every client of a plan is ok
 unfoldable pub acceptTest : Plan → Bool
 acceptTest plan = allBelow (plan .n) (λ i. okTest (clientOf plan i) (ownOf plan (i + 1)) (plan .f))
 
@@ -127,6 +124,7 @@ test-accept plan accepted =
 
 -- ---- every table
 
+-- Q holds of every table of f slots and n clients
 unfoldable pub everyTable : ℕ → ℕ → (List ℕ → Bool) → Bool
 everyTable zero n Q = Q []
 everyTable (suc f) n Q = allBelow (suc n) (λ x. everyTable f n (λ t. Q (x ∷ t)))
@@ -143,6 +141,7 @@ every-table (suc f) n Q h (x ∷ u) t =
 
 -- ---- the best
 
+-- t is u or stands before it in the dictionary
 unfoldable pub lexTest : List ℕ → List ℕ → Bool
 lexTest [] u = true
 lexTest (x ∷ t) [] = false
@@ -178,12 +177,12 @@ better-tested t u h = by (ltb (owned t) (owned u)) refl h
 module _ (plan : Plan) where
   -- no table is accepted
   unfoldable pub noneTest : Bool
-  noneTest = everyTable (plan .f) (plan .n) (λ u. pick (acceptTest (withTable plan u)) false true)
+  noneTest = everyTable (plan .f) (plan .n) (λ u. not (acceptTest (withTable plan u)))
 
   pub none-tested : noneTest ≡ true → NoTable (AcceptedIn plan) (plan .f) (plan .n)
   unfolding noneTest
   none-tested h u t accepted =
-      let no = failed (acceptTest (withTable plan u)) (every-table (plan .f) (plan .n) _ h u t) in
+      let no = not-true (acceptTest (withTable plan u)) (every-table (plan .f) (plan .n) _ h u t) in
       false-true (sym no ∙ test-accept (withTable plan u) accepted)
 
   -- t is a table, is accepted, and is better than every other that is
@@ -199,9 +198,9 @@ module _ (plan : Plan) where
   better true b e h = h
   better false b e h = false-true e
 
-  most-by : (t : List ℕ) (f n : ℕ) → length t ≡ f → allBelow f (λ x. leb (getD t x 0) n) ≡ true → (x : ℕ)
+  owners-most : (t : List ℕ) (f n : ℕ) → length t ≡ f → allBelow f (λ x. leb (getD t x 0) n) ≡ true → (x : ℕ)
       → getD t x 0 ≤ n
-  most-by t f n e h x = by (decLt x f)
+  owners-most t f n e h x = by (decLt x f)
     where
       by : Dec (x < f) → getD t x 0 ≤ n
       by (yes l) = leb-true (getD t x 0) n (each-below f _ h x l)
@@ -215,7 +214,7 @@ module _ (plan : Plan) where
       let c = both-true (acceptTest (withTable plan t)) _ (b .1) in
       let long = eqb-true (length t) (plan .f) (a .0) in
       record {
-        table = record { long = long; most = most-by t (plan .f) (plan .n) long (b .0) };
+        table = record { long = long; most = owners-most t (plan .f) (plan .n) long (b .0) };
         good = accept-tested (withTable plan t) f> (c .0);
         fewest = λ u table good. beats u table good (c .1) .0;
         least = λ u table good. beats u table good (c .1) .1;
@@ -231,6 +230,7 @@ module _ (plan : Plan) where
 
 -- ---- steps
 
+-- the same numbers
 unfoldable pub numbersTest : List ℕ → List ℕ → Bool
 numbersTest [] [] = true
 numbersTest [] (y ∷ ys) = false
@@ -246,6 +246,7 @@ numbers-tested (x ∷ xs) (y ∷ ys) h =
     let b = both-true (eqb x y) (numbersTest xs ys) h in
     rw (eqb-true x y (b .0), numbers-tested xs ys (b .1))
 
+-- the same client served, or the same refusal
 unfoldable pub serviceTest : Service → Service → Bool
 serviceTest (service.Given a) (service.Given b) = eqb a b
 serviceTest (service.Given a) (service.Refused b) = false

@@ -48,24 +48,24 @@ copied s out a r now e back h w =
 
 -- ---- written, then read: r is what the write gave, now the bytes after
 
-given : (o : Outcome) (n size : ℕ) → writtenBy o n ≡ written.Bytes size → (o ≡ outcome.Fine) × (size ≡ n)
-given outcome.Fine n size h = (refl, cc)
-given (outcome.Refused k offset) n size h = let z : _≡_ {A = ℕ} 0 1 = cc in absurd (omega arith)
+written-fine : (o : Outcome) (n size : ℕ) → writtenBy o n ≡ written.Bytes size → (o ≡ outcome.Fine) × (size ≡ n)
+written-fine outcome.Fine n size h = (refl, cc)
+written-fine (outcome.Refused k offset) n size h = let z : _≡_ {A = ℕ} 0 1 = cc in absurd (omega arith)
 
 -- what was written lies within the bytes lent
 pub record Fitted (plan : Plan) (size : ℕ) (now : List ℕ) : Type 0 where
   pub passed : planCheck plan ≡ outcome.Fine
   pub fits : size ≤ length now
 
-kept-by : (o : Outcome) (stream out : List ℕ) → (o ≡ outcome.Fine → length stream ≤ length out)
+bytes-length : (o : Outcome) (stream out : List ℕ) → (o ≡ outcome.Fine → length stream ≤ length out)
     → length (bytesBy o stream out) ≡ length out
-kept-by outcome.Fine stream out h = let l = h refl in simp (length-append, length-drop) (omega arith)
-kept-by (outcome.Refused k offset) stream out h = refl
+bytes-length outcome.Fine stream out h = let l = h refl in simp (length-append, length-drop) (omega arith)
+bytes-length (outcome.Refused k offset) stream out h = refl
 
-room : (plan : Plan) (n : ℕ) → writeCheck plan n ≡ outcome.Fine
+write-fine : (plan : Plan) (n : ℕ) → writeCheck plan n ≡ outcome.Fine
     → (planCheck plan ≡ outcome.Fine) × (length (streamOf plan) ≤ n)
 unfolding writeCheck
-room plan n h =
+write-fine plan n h =
     let test : Bool = leb (length (streamOf plan)) n in
     let b = both-fine (planCheck plan) (need test refusal.room 0) h in
     (b .0, leb-true (length (streamOf plan)) n (need-fine test refusal.room 0 (b .1)))
@@ -75,9 +75,9 @@ pub fitted : (plan : Plan) (out : List ℕ) (r : Written) (now : List ℕ) (size
 unfolding writtenOf bytesOf
 fitted plan out r now size w e =
     let o : Outcome = writeCheck plan (length out) in
-    let g = given o (length (streamOf plan)) size (sym (w .answer) ∙ e) in
-    let l = room plan (length out) (g .0) in
-    let kept : length now ≡ length out = ap length (w .bytes) ∙ kept-by o (streamOf plan) out (λ h. l .1) in
+    let g = written-fine o (length (streamOf plan)) size (sym (w .answer) ∙ e) in
+    let l = write-fine plan (length out) (g .0) in
+    let kept : length now ≡ length out = ap length (w .bytes) ∙ bytes-length o (streamOf plan) out (λ h. l .1) in
     record { passed = l .0; fits = omega (arith, g .1, l .1) }
 
 -- and is the plan's own reading

@@ -38,8 +38,8 @@ among x [] = false
 among x (y ∷ ys) = pick (eqb x y) true (among x ys)
 
 -- the schedule as the plan of its client, which requires this much
-unfoldable pub tablePlan : Client → Schedule → Plan
-tablePlan client t =
+unfoldable pub schedulePlan : Client → Schedule → Plan
+schedulePlan client t =
     record {
       f = t .f;
       n = 1;
@@ -79,13 +79,13 @@ pub data Question : Type 0 where
 -- every answer that the contract allows is this one; only that of a step may be a refusal
 abbrev pub Right : Question → Type 0
 Right (figure t m L) =
-    (r : Figures) → IsFigures (tablePlan little t) 1 r
+    (r : Figures) → IsFigures (schedulePlan little t) 1 r
     → (figuresNumber r ≡ 0) × (figureIn r .slots ≡ m) × (figureIn r .scaled ≡ L)
 Right (waiting t k slots) =
-    (r : Wait) → IsWaitFor (tablePlan little t) 1 k r → (waitNumber r ≡ 0) × (waitIn r ≡ slots)
-Right (accepted t client) = (r : Judged) → IsJudged (tablePlan client t) r → r ≡ judged.Given acceptance
+    (r : Wait) → IsWaitFor (schedulePlan little t) 1 k r → (waitNumber r ≡ 0) × (waitIn r ≡ slots)
+Right (accepted t client) = (r : Judged) → IsJudged (schedulePlan client t) r → r ≡ judged.Given acceptance
 Right (late t client s j) =
-    (r : Judged) → IsJudged (tablePlan client t) r
+    (r : Judged) → IsJudged (schedulePlan client t) r
     → r ≡ judged.Given (record { client = 1; verdict = Late; start = s; length = j })
 Right (found f n client table) =
     (r : Searched) → IsSearched (searchPlan f n client) r → (r .answer ≡ answer.Found) × (take f (r .owners) ≡ table)

@@ -1,3 +1,5 @@
+-- The laws of `records`: a file rests only on those before it.
+-- Assumes nothing.
 pub mod Checks
 pub mod Refusals
 pub mod Lists

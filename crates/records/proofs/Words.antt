@@ -13,11 +13,11 @@ abbrev pub Bytes : List ℕ → Type 0
 Bytes s = (i : ℕ) → getD s i 0 < 256
 
 -- the bytes of a number that is read are those it was read from
-pub high : (s : List ℕ) → Bytes s → (i : ℕ) → word s i / 256 % 256 ≡ getD s i 0
-high s b i = omega (arith, b i, b (i + 1))
+pub word-high : (s : List ℕ) → Bytes s → (i : ℕ) → word s i / 256 % 256 ≡ getD s i 0
+word-high s b i = omega (arith, b i, b (i + 1))
 
-pub low : (s : List ℕ) → Bytes s → (i : ℕ) → word s i % 256 ≡ getD s (i + 1) 0
-low s b i = omega (arith, b i, b (i + 1))
+pub word-low : (s : List ℕ) → Bytes s → (i : ℕ) → word s i % 256 ≡ getD s (i + 1) 0
+word-low s b i = omega (arith, b i, b (i + 1))
 
 -- a number's bytes at at + t read as that number
 pub word-same : (s : List ℕ) (at t x : ℕ) → getD s (at + t) 0 ≡ x / 256 % 256 → getD s (at + (t + 1)) 0 ≡ x % 256

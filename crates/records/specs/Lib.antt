@@ -1,3 +1,4 @@
+-- The definitions of `records`: a file rests only on those before it.
 pub mod Refusal
 pub mod First
 pub mod Pieces

@@ -19,24 +19,27 @@ use Rattle.frame.proofs.Within.{within-none, within-more}
 use Rattle.records.specs.First.{pick}
 use Rattle.records.proofs.Lists.{length-firsts, get-firsts}
 use Rattle.plan.specs.declared.Plan.{Plan}
-use Rattle.plan.specs.Plan.{ownerOf, ownIn}
+use Rattle.plan.specs.Plan.{ownerOf, isClient, ownIn}
 use Rattle.explore.specs.Best.{owned, LexLe}
 use Rattle.search.specs.Mend.{idleOf}
-use Rattle.search.specs.Trees.{slotIn, slotOf, filled}
+use Rattle.search.specs.Trees.{filledIn, filledAt, filled}
 
 -- ---- slot by slot
 
+-- how many slots of a table are idle
 pub idle : List ℕ → ℕ
 idle [] = 0
 idle (zero ∷ o) = suc (idle o)
 idle (suc x ∷ o) = idle o
 
+-- a table with its idle slots given to these owners, one after the other
 pub fill : List ℕ → List ℕ → List ℕ
 fill [] v = []
 fill (zero ∷ o) [] = 0 ∷ fill o []
 fill (zero ∷ o) (y ∷ v) = y ∷ fill o v
 fill (suc x ∷ o) v = suc x ∷ fill o v
 
+-- what another table has in its idle slots
 pub rest : List ℕ → List ℕ → List ℕ
 rest [] u = []
 rest (x ∷ o) [] = []
@@ -52,7 +55,7 @@ get-none (suc x) = refl
 owner-not-idle : (x : ℕ) → eqb (suc x) 0 ≡ false
 owner-not-idle x = ne-eqb (suc x) 0 (λ e. omega arith)
 
-idle-suc : (o : List ℕ) (x : ℕ) → x < length o → idle (take (suc x) o) ≡ idle (take x o) + pick (eqb (getD o x 0) 0) 1 0
+idle-suc : (o : List ℕ) (x : ℕ) → x < length o → idle (take (suc x) o) ≡ idle (take x o) + isClient 0 (getD o x 0)
 unfolding idle
 idle-suc [] x l = absurd (omega arith)
 idle-suc (zero ∷ o) zero l = refl
@@ -67,7 +70,7 @@ unfolding idle ownIn
 idle-within owners f zero l h = sym (within-none (ownIn owners f 0) 0)
 idle-within owners f (suc x) l h =
     let place : (0 + x) % f ≡ x = rw zero-add (mod-eq-of-lt (omega arith)) in
-    let here = ap (λ (k : ℕ). pick {A = ℕ} (eqb (getD owners k 0) 0) 1 0) place in
+    let here = ap (λ (k : ℕ). isClient 0 (getD owners k 0)) place in
     let more = rw add-one at (within-more (ownIn owners f 0) 0 x) in
     omega (arith, idle-suc owners x (omega arith), idle-within owners f x (omega arith) (omega arith))
 
@@ -89,10 +92,10 @@ fill-long (zero ∷ o) [] = ap suc (fill-long o [])
 fill-long (zero ∷ o) (y ∷ v) = ap suc (fill-long o v)
 fill-long (suc x ∷ o) v = ap suc (fill-long o v)
 
-pub get-filled : (plan : Plan) (v : List ℕ) (x : ℕ) → x < plan .f → getD (filled plan v) x 0 ≡ slotOf plan v x
+pub get-filled : (plan : Plan) (v : List ℕ) (x : ℕ) → x < plan .f → getD (filled plan v) x 0 ≡ filledAt plan v x
 get-filled plan v x l =
     ap (λ (t : List ℕ). getD t x 0) (sym (append-nil (filled plan v)))
-    ∙ get-firsts (slotOf plan v) 0 [] (plan .f) x l
+    ∙ get-firsts (filledAt plan v) 0 [] (plan .f) x l
 
 module _ (plan : Plan) (room : plan .f ≤ length (plan .owners)) where
   -- the plan's table
@@ -105,8 +108,8 @@ module _ (plan : Plan) (room : plan .f ≤ length (plan .owners)) where
   pub table-idle : idle tableOf ≡ idleOf plan
   table-idle = idle-within (plan .owners) (plan .f) (plan .f) (omega arith) room
 
-  slot-filled : (v : List ℕ) (x : ℕ) → x < plan .f → getD (fill tableOf v) x 0 ≡ slotOf plan v x
-  unfolding slotIn
+  slot-filled : (v : List ℕ) (x : ℕ) → x < plan .f → getD (fill tableOf v) x 0 ≡ filledAt plan v x
+  unfolding filledIn
   slot-filled v x l =
       let count = ap idle (take-take x (plan .f) (plan .owners) (omega arith))
       ∙ idle-within (plan .owners) (plan .f) x (omega arith) (omega arith) in
@@ -115,7 +118,7 @@ module _ (plan : Plan) (room : plan .f ≤ length (plan .owners)) where
 
   pub filled-fill : (v : List ℕ) → filled plan v ≡ fill tableOf v
   filled-fill v =
-      let long = length-firsts (slotOf plan v) (plan .f) in
+      let long = length-firsts (filledAt plan v) (plan .f) in
       ext-getD 0 (filled plan v) (fill tableOf v) (long ∙ sym (fill-long tableOf v ∙ table-long))
       (λ x l. get-filled plan v x (omega arith) ∙ sym (slot-filled v x (omega arith)))
 

@@ -1,3 +1,5 @@
+-- The laws of `search`: a file rests only on those before it.
+-- Assumes nothing.
 pub mod Questions
 pub mod Fillings
 pub mod Sets

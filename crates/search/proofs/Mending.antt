@@ -21,7 +21,7 @@ use Rattle.explore.specs.Best.{Table, owned, IsBest, NoTable, BestOf}
 use Rattle.explore.specs.Needs.{Fits}
 use Rattle.search.specs.Search.{idlePlan, AcceptedIn, Finds}
 use Rattle.search.specs.Mend.{Mends, idleOf}
-use Rattle.search.specs.Trees.{slotOf, filled, Planted}
+use Rattle.search.specs.Trees.{filledAt, filled, Planted}
 use Rattle.search.proofs.Fillings.{idle, fill, rest, tableOf, table-long, table-idle, filled-fill, fill-long}
 use Rattle.search.proofs.Fillings.{rest-long, rest-most, fill-rest, fill-most, fill-owned, fill-lex, get-filled}
 use Rattle.search.proofs.Sets.{filled-front, slot-kept}
@@ -47,6 +47,7 @@ module _ (P Q : List ℕ → Type 0) (f n : ℕ) (there : (t : List ℕ) → Tab
 module _ (plan : Plan) (g : ℕ) (trees : List ℕ) (room : plan .f ≤ length (plan .owners)) (g= : g ≡ idleOf plan)
     (g≤ : g ≤ 8) (most : (x : ℕ) → x < plan .f → ownerOf plan x ≤ plan .n)
     (planted : Planted plan g (plan .n) trees) where
+  -- the plan's table
   abbrev o : List ℕ
   o = tableOf plan room
 
@@ -119,13 +120,13 @@ module _ (plan : Plan) (g : ℕ) (trees : List ℕ) (room : plan .f ≤ length (
 
   -- what was found is returned with 0 past f
   pub mended : (found : Bool) (u : List ℕ) → found ≡ true → BestOf (Fits trees (plan .n)) g (plan .n) found (take g u)
-      → Finds (Mends plan) (plan .f) (plan .n) true (padded (slotOf plan u) (plan .f) 64 0)
+      → Finds (Mends plan) (plan .f) (plan .n) true (padded (filledAt plan u) (plan .f) 64 0)
   mended found u e best =
       let right : IsBest (Fits trees (plan .n)) g (plan .n) (take g u) = rw e at best in
       let same : filled plan u ≡ filled plan (take g u) =
-      rw g= (firsts-same (slotOf plan u) (slotOf plan (take (idleOf plan) u)) (plan .f) (filled-front plan u)) in (
-        rw (take-padded (slotOf plan u) (plan .f) 64 0, same) (best-mends (take g u) right),
-        drop-padded (slotOf plan u) (plan .f) 64 0,
+      rw g= (firsts-same (filledAt plan u) (filledAt plan (take (idleOf plan) u)) (plan .f) (filled-front plan u)) in (
+        rw (take-padded (filledAt plan u) (plan .f) 64 0, same) (best-mends (take g u) right),
+        drop-padded (filledAt plan u) (plan .f) 64 0,
       )
 
   pub not-mended : (found : Bool) (u : List ℕ) → found ≡ false
@@ -138,6 +139,7 @@ module _ (plan : Plan) (g : ℕ) (trees : List ℕ) (room : plan .f ≤ length (
 -- ---- an idle table
 
 module _ (f n : ℕ) (clients : List Client) where
+  -- f slots, n clients, and every slot idle
   abbrev plan : Plan
   plan = idlePlan f n clients
 

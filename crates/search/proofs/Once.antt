@@ -15,8 +15,9 @@ use Rattle.search.specs.declared.Answer.the-variants as answer
 use Rattle.search.specs.declared.Searched.{Searched}
 use Rattle.search.specs.Search.{searchCheck, AcceptedIn, Finds, SearchedAs, IsSearched}
 
-joined : (f : ℕ) (s t : List ℕ) → take f s ≡ take f t → drop f s ≡ drop f t → s ≡ t
-joined f s t e h =
+-- a list is its first f elements and the rest
+take-drop-one : (f : ℕ) (s t : List ℕ) → take f s ≡ take f t → drop f s ≡ drop f t → s ≡ t
+take-drop-one f s t e h =
     sym (take-append-drop f s) ∙ ap (λ (l : List ℕ). l ++ drop f s) e ∙ ap (λ (l : List ℕ). take f t ++ l) h
     ∙ take-append-drop f t
 
@@ -26,7 +27,7 @@ not-none P f n t best none = none t (best .table) (best .good)
 -- one answer, whatever P is
 pub finds-one : (P : List ℕ → Type 0) (f n : ℕ) (a b : Bool) (s t : List ℕ) → Finds P f n a s → Finds P f n b t
     → (a ≡ b) × (s ≡ t)
-finds-one P f n true true s t x y = (refl, joined f s t (best-one P f n _ _ (x .0) (y .0)) (x .1 ∙ sym (y .1)))
+finds-one P f n true true s t x y = (refl, take-drop-one f s t (best-one P f n _ _ (x .0) (y .0)) (x .1 ∙ sym (y .1)))
 finds-one P f n true false s t x y = absurd (not-none P f n _ (x .0) (y .0))
 finds-one P f n false true s t x y = absurd (not-none P f n _ (y .0) (x .0))
 finds-one P f n false false s t x y = (refl, x .1 ∙ sym (y .1))
@@ -47,10 +48,10 @@ module _ (plan : Plan) where
       let number = refused-number (searchCheck plan) j (x .0) ∙ sym (refused-number (searchCheck plan) k (y .0)) in
       (ap answer.Refused number, x .1 ∙ sym (y .1))
 
-  made-alike : (a b : Answer) (s t : List ℕ) → (a ≡ b) × (s ≡ t)
+  searched-alike : (a b : Answer) (s t : List ℕ) → (a ≡ b) × (s ≡ t)
       → _≡_ {A = Searched} (record { answer = a; owners = s }) (record { answer = b; owners = t })
-  made-alike a b s t e = rw (e .0, e .1)
+  searched-alike a b s t e = rw (e .0, e .1)
 
   pub searched-once : (r r′ : Searched) → IsSearched plan r → IsSearched plan r′ → r ≡ r′
   searched-once r r′ is is′ =
-      made-alike _ _ _ _ (answers-one (r .answer) (r′ .answer) (r .owners) (r′ .owners) is is′)
+      searched-alike _ _ _ _ (answers-one (r .answer) (r′ .answer) (r .owners) (r′ .owners) is is′)

@@ -18,9 +18,9 @@ use Rattle.frame.proofs.Within.{within-grows, within-more}
 use Rattle.records.specs.First.{pick}
 use Rattle.records.specs.Pieces.{padded}
 use Rattle.records.proofs.Lists.{get-padded}
-use Rattle.records.proofs.Checks.{one-or-none}
 use Rattle.plan.specs.declared.Plan.{Plan}
-use Rattle.plan.specs.Plan.{clientOf, ownerOf, ownIn, ownOf}
+use Rattle.plan.specs.Plan.{clientOf, ownerOf, isClient, ownIn, ownOf}
+use Rattle.plan.proofs.Laws.{client-most}
 use Rattle.figures.proofs.Laws.{place-first}
 use Rattle.judge.specs.declared.Verdict.{Verdict}
 use Rattle.judge.specs.declared.Verdict.the-variants.{Ok}
@@ -30,25 +30,21 @@ use Rattle.judge.proofs.Once.{verdict-one}
 use Rattle.explore.specs.Needs.{childOf, nodeFrom, nodeOf}
 use Rattle.search.specs.Search.{withTable}
 use Rattle.search.specs.Mend.{idleOf}
-use Rattle.search.specs.Trees.{slotIn, slotOf, filled, Suits}
+use Rattle.search.specs.Trees.{filledIn, filledAt, filled, Suits}
 use Rattle.search.proofs.Fillings.{get-filled}
 
 -- ---- leaves
 
--- 1 where the owner is client c
-abbrev is : ℕ → ℕ → ℕ
-is c owner = pick (eqb owner c) 1 0
-
 -- one node below: the node above and whose the place is
-child-one : (c x y d e : ℕ) → childOf c x d ≡ childOf c y e → (x ≡ y) × (is c d ≡ is c e)
+child-one : (c x y d e : ℕ) → childOf c x d ≡ childOf c y e → (x ≡ y) × (isClient c d ≡ isClient c e)
 child-one c x y d e h =
-    let a = one-or-none (eqb d c) in
-    let b = one-or-none (eqb e c) in
+    let a = client-most c d in
+    let b = client-most c e in
     (omega arith, omega arith)
 
 -- a leaf tells where the client's places are
 from-one : (c x y : ℕ) (u v : List ℕ) → length u ≡ length v → nodeFrom c x u ≡ nodeFrom c y v
-    → (x ≡ y) × ((j : ℕ) → is c (getD u j 0) ≡ is c (getD v j 0))
+    → (x ≡ y) × ((j : ℕ) → isClient c (getD u j 0) ≡ isClient c (getD v j 0))
 from-one c x y [] [] e h = (h, λ j. refl)
 from-one c x y [] (b ∷ v) e h = absurd (omega arith)
 from-one c x y (a ∷ u) [] e h = absurd (omega arith)
@@ -57,13 +53,13 @@ from-one c x y (a ∷ u) (b ∷ v) e h =
     let here = child-one c x y a b (below .0) in
     (here .0, place (here .1) (below .1))
   where
-    place : is c a ≡ is c b → ((j : ℕ) → is c (getD u j 0) ≡ is c (getD v j 0)) → (j : ℕ)
-        → is c (getD (a ∷ u) j 0) ≡ is c (getD (b ∷ v) j 0)
+    place : isClient c a ≡ isClient c b → ((j : ℕ) → isClient c (getD u j 0) ≡ isClient c (getD v j 0)) → (j : ℕ)
+        → isClient c (getD (a ∷ u) j 0) ≡ isClient c (getD (b ∷ v) j 0)
     place first later zero = first
     place first later (suc j) = later j
 
 leaf-places : (c : ℕ) (u v : List ℕ) → length u ≡ length v → nodeOf c u ≡ nodeOf c v → (j : ℕ)
-    → is c (getD u j 0) ≡ is c (getD v j 0)
+    → isClient c (getD u j 0) ≡ isClient c (getD v j 0)
 unfolding nodeOf
 leaf-places c u v e h = from-one c 1 1 u v e h .1
 
@@ -112,20 +108,20 @@ idle-before plan x l e =
 
 -- what the loop stores
 pub slot-at : (owners : List ℕ) (f : ℕ) (filling : List ℕ) (x j r : ℕ) → j ≡ within (ownIn owners f 0) 0 x
-    → r ≡ pick (eqb (getD owners x 0) 0) (getD filling j 0) (getD owners x 0) → r ≡ slotIn owners f filling x
-unfolding slotIn
+    → r ≡ pick (eqb (getD owners x 0) 0) (getD filling j 0) (getD owners x 0) → r ≡ filledIn owners f filling x
+unfolding filledIn
 slot-at owners f filling x j r e h = h ∙ rw e
 
 -- an owned slot keeps its owner
-pub slot-kept : (plan : Plan) (u : List ℕ) (x : ℕ) → 0 < ownerOf plan x → slotOf plan u x ≡ ownerOf plan x
-unfolding slotIn
+pub slot-kept : (plan : Plan) (u : List ℕ) (x : ℕ) → 0 < ownerOf plan x → filledAt plan u x ≡ ownerOf plan x
+unfolding filledIn
 slot-kept plan u x l = rw (ne-eqb (ownerOf plan x) 0 (λ e. omega arith))
 
 -- owners that h does not tell apart fill each slot so that h does not
 slot-map : (h : ℕ → ℕ) (plan : Plan) (u v : List ℕ)
     → ((j : ℕ) → j < idleOf plan → h (getD u j 0) ≡ h (getD v j 0)) → (x : ℕ) → x < plan .f
-    → h (slotOf plan u x) ≡ h (slotOf plan v x)
-unfolding slotIn
+    → h (filledAt plan u x) ≡ h (filledAt plan v x)
+unfolding filledIn
 slot-map h plan u v alike x l = by (eqb (ownerOf plan x) 0) refl
   where
     j : ℕ
@@ -138,37 +134,37 @@ slot-map h plan u v alike x l = by (eqb (ownerOf plan x) 0) refl
 
 -- places of a filling past the idle slots are not read
 pub filled-front : (plan : Plan) (u : List ℕ) (x : ℕ) → x < plan .f
-    → slotOf plan u x ≡ slotOf plan (take (idleOf plan) u) x
+    → filledAt plan u x ≡ filledAt plan (take (idleOf plan) u) x
 filled-front plan u =
     slot-map (λ owner. owner) plan u (take (idleOf plan) u) (λ j l. sym (getD-take (idleOf plan) u j 0 l))
 
 -- ---- a client's slots
 
 module _ (plan : Plan) (f> : 0 < plan .f) (c : ℕ) where
-  own-padded : (u : List ℕ) (s : ℕ) → ownIn (padded (slotOf plan u) (plan .f) 64 0) (plan .f) c s
-      ≡ is c (slotOf plan u (s % plan .f))
+  own-padded : (u : List ℕ) (s : ℕ) → ownIn (padded (filledAt plan u) (plan .f) 64 0) (plan .f) c s
+      ≡ isClient c (filledAt plan u (s % plan .f))
   unfolding ownIn
-  own-padded u s = ap (is c) (get-padded (slotOf plan u) (plan .f) 64 0 (s % plan .f) (mod-lt s f>))
+  own-padded u s = ap (isClient c) (get-padded (filledAt plan u) (plan .f) 64 0 (s % plan .f) (mod-lt s f>))
 
-  own-filled : (u : List ℕ) (s : ℕ) → ownIn (filled plan u) (plan .f) c s ≡ is c (slotOf plan u (s % plan .f))
+  own-filled : (u : List ℕ) (s : ℕ) → ownIn (filled plan u) (plan .f) c s ≡ isClient c (filledAt plan u (s % plan .f))
   unfolding ownIn
-  own-filled u s = ap (is c) (get-filled plan u (s % plan .f) (mod-lt s f>))
+  own-filled u s = ap (isClient c) (get-filled plan u (s % plan .f) (mod-lt s f>))
 
   -- owners that lead to the same leaf give the client the same slots
   own-leaf : (u v : List ℕ) → length v ≡ idleOf plan → idleOf plan ≤ length u
       → nodeOf c (take (idleOf plan) u) ≡ nodeOf c v
-      → ownIn (padded (slotOf plan u) (plan .f) 64 0) (plan .f) c ≡ ownIn (filled plan v) (plan .f) c
+      → ownIn (padded (filledAt plan u) (plan .f) 64 0) (plan .f) c ≡ ownIn (filled plan v) (plan .f) c
   own-leaf u v e l h =
       let g = idleOf plan in
       let places = leaf-places c (take g u) v (length-take-le g u l ∙ sym e) h in
-      let alike = slot-map (is c) plan u v (λ j b. ap (is c) (sym (getD-take g u j 0 b)) ∙ places j) in
+      let alike = slot-map (isClient c) plan u v (λ j b. ap (isClient c) (sym (getD-take g u j 0 b)) ∙ places j) in
       fun-ext (λ s. own-padded u s ∙ alike (s % plan .f) (mod-lt s f>) ∙ sym (own-filled v s))
 
 -- ---- what judging says of a leaf
 
 -- the client is judged on one filling that leads to its node, so on every one
 pub leaf-judged : (plan : Plan) (i g node : ℕ) (u table : List ℕ) (verdict : Verdict) → 0 < plan .f → g ≡ idleOf plan
-    → g ≤ length u → nodeOf (i + 1) (take g u) ≡ node → table ≡ padded (slotOf plan u) (plan .f) 64 0
+    → g ≤ length u → nodeOf (i + 1) (take g u) ≡ node → table ≡ padded (filledAt plan u) (plan .f) 64 0
     → IsVerdict (clientOf plan (i + 1 - 1)) (ownIn table (plan .f) (i + 1)) (plan .f) verdict
     → (v : List ℕ) → length v ≡ g → nodeOf (i + 1) v ≡ node
     → IsVerdict (clientOf plan i) (ownIn (filled plan v) (plan .f) (i + 1)) (plan .f) verdict

@@ -14,19 +14,19 @@ use Rattle.judge.specs.Judge.{ClientOk}
 use Rattle.explore.specs.Needs.{nodeOf, needAt}
 use Rattle.search.specs.Search.{withTable}
 
--- slot x of a frame of f slots that have these owners, when its idle slots are filled: an idle slot gets the owner
--- whose place is the number of idle slots before it
-unfoldable pub slotIn : List ℕ → ℕ → List ℕ → ℕ → ℕ
-slotIn owners f filling x =
+-- the owner of slot x of a frame of f slots that have these owners, when its idle slots are filled: an idle slot gets
+-- the owner whose place is the number of idle slots before it
+unfoldable pub filledIn : List ℕ → ℕ → List ℕ → ℕ → ℕ
+filledIn owners f filling x =
     pick (eqb (getD owners x 0) 0) (getD filling (within (ownIn owners f 0) 0 x) 0) (getD owners x 0)
 
--- slot x of a plan, filled so
-abbrev pub slotOf : Plan → List ℕ → ℕ → ℕ
-slotOf plan = slotIn (plan .owners) (plan .f)
+-- the owner of slot x of a plan, filled so
+abbrev pub filledAt : Plan → List ℕ → ℕ → ℕ
+filledAt plan = filledIn (plan .owners) (plan .f)
 
 -- the table that this makes
 abbrev pub filled : Plan → List ℕ → List ℕ
-filled plan filling = firsts (slotOf plan filling) (plan .f)
+filled plan filling = firsts (filledAt plan filling) (plan .f)
 
 -- the number is 0 exactly when client i + 1 is ok on the table that the filling makes
 pub record Suits (plan : Plan) (i : ℕ) (filling : List ℕ) (number : ℕ) : Type 0 where

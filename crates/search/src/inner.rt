@@ -21,11 +21,11 @@ ghost use lib.ListN.{getD, take, length};
 ghost use Rattle.records.specs.First.{pick};
 ghost use Rattle.records.specs.Pieces.{padded};
 ghost use Rattle.plan.specs.Plan.{ownerOf};
+ghost use Rattle.judge.specs.declared.Verdict.the-variants.{Ok};
 ghost use Rattle.explore.specs.Needs.{childOf, nodeOf};
 ghost use Rattle.search.specs.Search.{searchCheck, Finds};
-ghost use Rattle.judge.specs.declared.Verdict.the-variants.{Ok};
 ghost use Rattle.search.specs.Mend.{Mends, idleOf};
-ghost use Rattle.search.specs.Trees.{slotOf, Suits, IsNumber, Planted};
+ghost use Rattle.search.specs.Trees.{filledAt, Suits, IsNumber, Planted};
 
 // More places than there are: what a client needs where a set of idle slots will not do.
 const HOPELESS: u8 = 9;
@@ -58,7 +58,7 @@ fn slot(owner: u8, filling: [u8; 8], j: usize) -> u8
 // The plan's table with its idle slots filled.
 fn fill(plan: Plan, filling: [u8; 8]) -> [u8; 64]
     requires { ⌜ (plan .f ≤ 64) × (idleOf plan ≤ 8) ⌝ }
-    ensures { λ r. ⌜ r ≡ padded (slotOf plan filling) (plan .f) 64 0 ⌝ }
+    ensures { λ r. ⌜ r ≡ padded (filledAt plan filling) (plan .f) 64 0 ⌝ }
 {
     let f = plan.f;
     let owners = plan.owners;

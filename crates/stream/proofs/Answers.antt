@@ -74,10 +74,10 @@ unfolding writeCheck
 room-refused plan out e l =
     wrote-by plan out (outcome.Refused refusal.room 0) (simp (e, lt-leb (length (streamOf plan)) (length out) l))
 
-pub given : (plan : Plan) (out : List ℕ) → planCheck plan ≡ outcome.Fine → length (streamOf plan) ≤ length out
+pub write-given : (plan : Plan) (out : List ℕ) → planCheck plan ≡ outcome.Fine → length (streamOf plan) ≤ length out
     → Wrote plan out (written.Bytes (length (streamOf plan))) (streamOf plan ++ drop (length (streamOf plan)) out)
 unfolding writeCheck
-given plan out e l = wrote-by plan out outcome.Fine (simp (e, le-leb (length (streamOf plan)) (length out) l))
+write-given plan out e l = wrote-by plan out outcome.Fine (simp (e, le-leb (length (streamOf plan)) (length out) l))
 
 -- a refused write has written nothing that could be read
 pub not-reread : (plan : Plan) (k : ℕ) (now : List ℕ) → Reread plan (written.Refused k) now

@@ -1,3 +1,5 @@
+-- The laws of `stream`: a file rests only on those before it.
+-- Assumes nothing.
 pub mod Records
 pub mod Lengths
 pub mod WrittenBack

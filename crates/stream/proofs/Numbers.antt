@@ -16,13 +16,13 @@ use Rattle.records.proofs.Refusals.{or-each, first-each, need-numbered, range-n
 use Rattle.plan.specs.declared.Plan.{Plan}
 use Rattle.plan.specs.Check.{frameCheck, countCheck, clientCheck, ownerCheck, planCheck}
 use Rattle.plan.proofs.Refusals.{client-numbered, owner-numbered, plan-numbered}
-use Rattle.stream.specs.Kind.{headKind, clientKind, rowKind, endKind, bodyOf, reserved, classOf, rowsOf}
+use Rattle.stream.specs.Kind.{headKind, clientKind, rowKind, endKind, bodyOf, isReserved, classOf, rowsOf}
 use Rattle.stream.specs.Read.{fIn, nIn, after, place, dueCheck, headRead, clientAt, numberCheck, clientRead}
-use Rattle.stream.specs.Read.{clientDue}
-use Rattle.stream.specs.Read.{slotCheck}
-use Rattle.stream.specs.Read.{slotDue, rowRead, rowDue, endRead, toClients, toRows, toEnd, restRead, readCheck}
+use Rattle.stream.specs.Read.{clientDue, slotCheck, slotDue, rowRead, rowDue, endRead, toClients, toRows, toEnd}
+use Rattle.stream.specs.Read.{restRead, readCheck}
 use Rattle.stream.specs.Write.{streamOf, writeCheck}
 
+-- a refusal of reading, 1 to 11, or none
 OfReading : Outcome → Type 0
 OfReading = Numbered refusal.pastFrame
 
@@ -36,7 +36,7 @@ unfolding OfReading dueCheck classOf
 due-numbered s at due =
     let kind : ℕ = getD s at 0 in
     record-numbered refusal.pastFrame s at (classOf due kind) (bodyOf kind) (omega arith)
-    (class-most (reserved kind) (eqb kind due))
+    (class-most (isReserved kind) (eqb kind due))
 
 head-numbered : (s : List ℕ) → OfReading (headRead s)
 unfolding OfReading headRead
@@ -59,18 +59,18 @@ client-read-numbered s at number =
     (omega arith))
     (client-numbered refusal.pastFrame (clientAt s at) at (omega arith)))
 
-slot-by : (b : Bool) (n byte at : ℕ) → OfReading (pick b (ownerCheck byte n at)
+slot-numbered : (b : Bool) (n byte at : ℕ) → OfReading (pick b (ownerCheck byte n at)
     (need (eqb byte 255) refusal.pastFrame at))
 unfolding OfReading
-slot-by true n byte at = owner-numbered refusal.pastFrame byte n at (omega arith)
-slot-by false n byte at = need-numbered refusal.pastFrame (eqb byte 255) refusal.pastFrame at (omega arith)
+slot-numbered true n byte at = owner-numbered refusal.pastFrame byte n at (omega arith)
+slot-numbered false n byte at = need-numbered refusal.pastFrame (eqb byte 255) refusal.pastFrame at (omega arith)
     (omega arith)
 
 row-read-numbered : (s : List ℕ) (f n at j : ℕ) → OfReading (rowRead s f n at j)
 unfolding OfReading rowRead slotDue slotCheck
 row-read-numbered s f n at j =
     or-each OfReading (dueCheck s at rowKind) (firstOf (slotDue s f n at j) 8) (due-numbered s at rowKind)
-    (first-each OfReading (inl refl) (slotDue s f n at j) (λ t. slot-by (ltb (8 * j + t) f) n
+    (first-each OfReading (inl refl) (slotDue s f n at j) (λ t. slot-numbered (ltb (8 * j + t) f) n
     (getD s (at + (1 + t)) 0) at) 8)
 
 end-numbered : (s : List ℕ) (at : ℕ) → OfReading (endRead s at)

@@ -14,16 +14,16 @@ use Rattle.records.specs.Record.{overCheck}
 use Rattle.records.specs.declared.Outcome.{Outcome}
 use Rattle.records.specs.declared.Outcome.the-variants.{Fine}
 use Rattle.records.proofs.Refusals.{or-reached, or-each, first-reached, first-each, need-within, record-within}
-use Rattle.records.proofs.Refusals.{over-within}
-use Rattle.records.proofs.Refusals.{range-unread}
+use Rattle.records.proofs.Refusals.{over-within, range-unread}
 use Rattle.plan.specs.Check.{frameCheck, countCheck, clientCheck, ownerCheck}
 use Rattle.plan.proofs.Refusals.{client-within, owner-within}
 use Rattle.stream.specs.Kind.{headKind, clientKind, rowKind, endKind, bodyOf, classOf, rowsOf}
 use Rattle.stream.specs.Read.{after, place, dueCheck, fIn, nIn, headRead, clientAt, numberCheck, clientRead}
 use Rattle.stream.specs.Read.{clientDue, slotCheck, slotDue, rowRead, rowDue, endRead, toClients, toRows, toEnd}
 use Rattle.stream.specs.Read.{restRead, readCheck}
-use Rattle.stream.proofs.Records.{Whole, after-whole, head-fine, client-at, row-at}
+use Rattle.stream.proofs.Records.{Whole, after-whole, head-fine, clients-fine, rows-fine}
 
+-- an offset that lies in the stream or at its end
 Within : List ℕ → Outcome → Type 0
 Within s o = offsetOf o ≤ length s
 
@@ -41,10 +41,10 @@ place-within s at kind zero l h = l
 place-within s at kind (suc i) l h = after-within s (place s at i) kind (h i (omega arith))
 
 clients-within : (s : List ℕ) (at i : ℕ) → at ≤ length s → firstOf (clientDue s at) i ≡ Fine → place s at i ≤ length s
-clients-within s at i l h = place-within s at clientKind i l (λ j m. client-at s at i h j m .whole)
+clients-within s at i l h = place-within s at clientKind i l (λ j m. clients-fine s at i h j m .whole)
 
 rows-within : (s : List ℕ) (f n at i : ℕ) → at ≤ length s → firstOf (rowDue s f n at) i ≡ Fine → place s at i ≤ length s
-rows-within s f n at i l h = place-within s at rowKind i l (λ j m. row-at s f n at i h j m .whole)
+rows-within s f n at i l h = place-within s at rowKind i l (λ j m. rows-fine s f n at i h j m .whole)
 
 -- ---- records
 
@@ -72,18 +72,18 @@ client-read-within s at number l =
     (need-within (length s) (eqb (getD s (at + 1) 0) number) refusal.notNext at l)
     (client-within (length s) (clientAt s at) at l))
 
-slot-by : (s : List ℕ) (b : Bool) (n byte at : ℕ) → at ≤ length s
+slot-within : (s : List ℕ) (b : Bool) (n byte at : ℕ) → at ≤ length s
     → Within s (pick b (ownerCheck byte n at) (need (eqb byte 255) refusal.pastFrame at))
 unfolding Within
-slot-by s true n byte at l = owner-within (length s) byte n at l
-slot-by s false n byte at l = need-within (length s) (eqb byte 255) refusal.pastFrame at l
+slot-within s true n byte at l = owner-within (length s) byte n at l
+slot-within s false n byte at l = need-within (length s) (eqb byte 255) refusal.pastFrame at l
 
 row-read-within : (s : List ℕ) (f n at j : ℕ) → at ≤ length s → Within s (rowRead s f n at j)
 unfolding Within rowRead slotDue slotCheck
 row-read-within s f n at j l =
     or-each (Within s) (dueCheck s at rowKind) (firstOf (slotDue s f n at j) 8) (due-within s at rowKind l)
     (first-each (Within s) (omega arith) (slotDue s f n at j)
-    (λ t. slot-by s (ltb (8 * j + t) f) n (getD s (at + (1 + t)) 0) at l) 8)
+    (λ t. slot-within s (ltb (8 * j + t) f) n (getD s (at + (1 + t)) 0) at l) 8)
 
 end-within : (s : List ℕ) (at : ℕ) → at ≤ length s → Within s (endRead s at)
 unfolding Within endRead

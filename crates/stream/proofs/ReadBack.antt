@@ -26,11 +26,10 @@ use Rattle.plan.specs.Check.{frameCheck, countCheck, clientCheck, planCheck}
 use Rattle.plan.proofs.Laws.{Checked, Required, client-pass, owner-pass, plan-fine}
 use Rattle.stream.specs.Kind.{headKind, clientKind, rowKind, endKind, wholeOf, classOf, rowsOf}
 use Rattle.stream.specs.Read.{after, place, dueCheck, headRead, clientAt, numberCheck, clientRead, clientDue}
-use Rattle.stream.specs.Read.{slotCheck}
-use Rattle.stream.specs.Read.{slotDue, rowRead, rowDue, endRead, toClients, toRows, toEnd, restRead, readCheck}
-use Rattle.stream.specs.Read.{clientIn, ownerIn, planOf, readOf}
+use Rattle.stream.specs.Read.{slotCheck, slotDue, rowRead, rowDue, endRead, toClients, toRows, toEnd, restRead}
+use Rattle.stream.specs.Read.{readCheck, clientIn, ownerIn, planOf, readOf}
 use Rattle.stream.specs.Trip.{Words, Held}
-use Rattle.stream.specs.Write.{headBytes, clientBytes, clientRecord, slotByte, slotIn, rowRecord, streamOf}
+use Rattle.stream.specs.Write.{headRecord, clientBytes, clientRecord, slotByte, rowByte, rowRecord, streamOf}
 use Rattle.stream.proofs.Records.{Whole, due-pass, after-whole}
 use Rattle.stream.proofs.Lengths.{length-client, length-row, length-parts}
 
@@ -100,17 +99,17 @@ client-forth s at number c h w r =
 -- ---- a row
 
 slot-same : (plan : Plan) (s : List ℕ) (at j t : ℕ) → Stands s at (rowRecord plan j) → t < 8
-    → getD s (at + (1 + t)) 0 ≡ slotIn plan j t
+    → getD s (at + (1 + t)) 0 ≡ rowByte plan j t
 unfolding rowRecord
 slot-same plan s at j t h l =
     byte s at (rowRecord plan j) h (1 + t) (omega (arith, length-row plan j))
     ∙ ap (λ (x : ℕ). getD (rowRecord plan j) x 0) (one-add t)
-    ∙ ap (λ (x : List ℕ). getD x t 0) (sym (append-nil (firsts (slotIn plan j) 8)))
-    ∙ get-firsts (slotIn plan j) 0 [] 8 t l
+    ∙ ap (λ (x : List ℕ). getD x t 0) (sym (append-nil (firsts (rowByte plan j) 8)))
+    ∙ get-firsts (rowByte plan j) 0 [] 8 t l
 
 slot-forth : (plan : Plan) (s : List ℕ) (at j t : ℕ) → Checked plan → Stands s at (rowRecord plan j) → t < 8
     → slotDue s (plan .f) (plan .n) at j t ≡ Fine
-unfolding slotDue slotCheck slotIn slotByte
+unfolding slotDue slotCheck rowByte slotByte
 slot-forth plan s at j t ok h l =
     let x : ℕ = 8 * j + t in
     let e = slot-same plan s at j t h l in
@@ -135,7 +134,7 @@ row-forth plan s at j ok h =
 
 module _ (plan : Plan) (ok : Checked plan) (held : Held plan) where
   front : List ℕ
-  front = headBytes plan ++ many (clientRecord plan) (plan .n)
+  front = headRecord plan ++ many (clientRecord plan) (plan .n)
 
   rows : List ℕ
   rows = many (rowRecord plan) (rowsOf (plan .f))
@@ -149,28 +148,28 @@ module _ (plan : Plan) (ok : Checked plan) (held : Held plan) where
   n-at = refl
 
   -- where the clients' records stand
-  from-clients : streamOf plan ≡ headBytes plan ++ (many (clientRecord plan) (plan .n) ++ (rows ++ (endKind ∷ [])))
+  from-clients : streamOf plan ≡ headRecord plan ++ (many (clientRecord plan) (plan .n) ++ (rows ++ (endKind ∷ [])))
   unfolding streamOf rows
   from-clients =
-      ap (λ (r : List ℕ). headBytes plan ++ r) (append-assoc (many (clientRecord plan) (plan .n)) rows (endKind ∷ []))
+      ap (λ (r : List ℕ). headRecord plan ++ r) (append-assoc (many (clientRecord plan) (plan .n)) rows (endKind ∷ []))
 
-  clients-at : toClients (streamOf plan) ≡ length (headBytes plan)
+  clients-at : toClients (streamOf plan) ≡ length (headRecord plan)
   unfolding streamOf after
   clients-at = refl
 
   client-place : (i : ℕ) → i ≤ plan .n
-      → place (streamOf plan) (toClients (streamOf plan)) i ≡ length (headBytes plan ++ many (clientRecord plan) i)
+      → place (streamOf plan) (toClients (streamOf plan)) i ≡ length (headRecord plan ++ many (clientRecord plan) i)
   unfolding clientRecord clientBytes
   client-place i l =
       ap (λ (k : ℕ). place (streamOf plan) k i) clients-at
-      ∙ ap (λ (s : List ℕ). place s (length (headBytes plan)) i) from-clients
-      ∙ place-many (headBytes plan) (rows ++ (endKind ∷ [])) (clientRecord plan) (plan .n) (λ k. refl) i l
+      ∙ ap (λ (s : List ℕ). place s (length (headRecord plan)) i) from-clients
+      ∙ place-many (headRecord plan) (rows ++ (endKind ∷ [])) (clientRecord plan) (plan .n) (λ k. refl) i l
 
   client-stands : (i : ℕ) → i < plan .n
       → Stands (streamOf plan) (place (streamOf plan) (toClients (streamOf plan)) i) (clientRecord plan i)
   client-stands i l =
       rw (client-place i (omega arith), from-clients)
-      (stands-many (headBytes plan) (rows ++ (endKind ∷ [])) (clientRecord plan) (plan .n) i l)
+      (stands-many (headRecord plan) (rows ++ (endKind ∷ [])) (clientRecord plan) (plan .n) i l)
 
   -- where the rows stand
   from-rows : streamOf plan ≡ front ++ (rows ++ (endKind ∷ []))
@@ -256,15 +255,16 @@ module _ (plan : Plan) (ok : Checked plan) (held : Held plan) where
   read-forth = rw (head-forth, f-at, n-at, clients-forth, rows-forth, end-forth)
 
   -- every number is found
-  client-is : (i : ℕ) → i < plan .n → clientIn (streamOf plan) (toClients (streamOf plan)) i ≡ clientOf plan i
+  client-read-back : (i : ℕ) → i < plan .n → clientIn (streamOf plan) (toClients (streamOf plan)) i ≡ clientOf plan i
   unfolding clientIn clientRecord
-  client-is i l =
+  client-read-back i l =
       client-same (streamOf plan) (place (streamOf plan) (toClients (streamOf plan)) i) (i + 1) (clientOf plan i)
       (client-stands i l) (held i l)
 
-  owner-is : (x : ℕ) → x < plan .f → ownerIn (streamOf plan) (toRows (streamOf plan) (plan .n)) x ≡ ownerOf plan x
-  unfolding ownerIn slotIn slotByte
-  owner-is x l =
+  owner-read-back : (x : ℕ) → x < plan .f
+      → ownerIn (streamOf plan) (toRows (streamOf plan) (plan .n)) x ≡ ownerOf plan x
+  unfolding ownerIn rowByte slotByte
+  owner-read-back x l =
       let j : ℕ = x / 8 in
       let e : 8 * j + x % 8 ≡ x = omega arith in
       let at : ℕ = place (streamOf plan) (toRows (streamOf plan) (plan .n)) j in
@@ -276,8 +276,8 @@ module _ (plan : Plan) (ok : Checked plan) (held : Held plan) where
   unfolding planOf used
   plan-forth =
       let s : List ℕ = streamOf plan in
-      let clients = padded-same (clientIn s (toClients s)) (clientOf plan) (plan .n) 8 noClient client-is in
-      let owners = padded-same (ownerIn s (toRows s (plan .n))) (ownerOf plan) (plan .f) 64 0 owner-is in
+      let clients = padded-same (clientIn s (toClients s)) (clientOf plan) (plan .n) 8 noClient client-read-back in
+      let owners = padded-same (ownerIn s (toRows s (plan .n))) (ownerOf plan) (plan .f) 64 0 owner-read-back in
       rw (f-at, n-at, clients, owners)
 
 -- ---- the theorem

@@ -15,11 +15,11 @@ use Rattle.records.specs.declared.Outcome.{Outcome}
 use Rattle.records.specs.declared.Outcome.the-variants.{Fine}
 use Rattle.records.proofs.Checks.{both-fine, need-fine, range-fine, first-fine, record-fine, record-pass, over-fine}
 use Rattle.plan.proofs.Laws.{Required, client-fine}
-use Rattle.stream.specs.Kind.{headKind, clientKind, rowKind, endKind, bodyOf, wholeOf, reserved, classOf, rowsOf}
+use Rattle.stream.specs.Kind.{headKind, clientKind, rowKind, endKind, bodyOf, wholeOf}
+use Rattle.stream.specs.Kind.{isReserved, classOf, rowsOf}
 use Rattle.stream.specs.Read.{fIn, nIn, after, place, dueCheck, headRead, clientAt, numberCheck, clientRead}
-use Rattle.stream.specs.Read.{clientDue}
-use Rattle.stream.specs.Read.{slotDue}
-use Rattle.stream.specs.Read.{rowRead, rowDue, endRead, toClients, toRows, toEnd, restRead, readCheck}
+use Rattle.stream.specs.Read.{clientDue, slotDue, rowRead, rowDue, endRead, toClients, toRows, toEnd}
+use Rattle.stream.specs.Read.{restRead, readCheck}
 
 -- ---- a record where a kind is due
 
@@ -35,7 +35,7 @@ class-by false false h = absurd (omega arith)
 
 class-due : (due kind : ℕ) → classOf due kind ≡ 0 → kind ≡ due
 unfolding classOf
-class-due due kind h = eqb-true kind due (class-by (reserved kind) (eqb kind due) h)
+class-due due kind h = eqb-true kind due (class-by (isReserved kind) (eqb kind due) h)
 
 pub due-fine : (s : List ℕ) (at due : ℕ) → dueCheck s at due ≡ Fine → Whole s at due
 unfolding dueCheck
@@ -65,6 +65,7 @@ place-more s at i = rw add-one
 
 -- ---- what each record says that passes
 
+-- the head's: f is 1 to 64, n is 1 to 8
 pub record HeadFine (s : List ℕ) : Type 0 where
   pub whole : Whole s 0 headKind
   pub f-low : 1 ≤ fIn s
@@ -85,6 +86,7 @@ head-fine s h =
 pub head-found : (s : List ℕ) {v : Outcome} → v ≡ headRead s → v ≡ Fine → HeadFine s
 head-found s e h = head-fine s (sym e ∙ h)
 
+-- a client's: its number is the next one, and its requirements pass
 pub record ClientFine (s : List ℕ) (at number : ℕ) : Type 0 where
   pub whole : Whole s at clientKind
   pub numbered : getD s (at + 1) 0 ≡ number
@@ -94,9 +96,9 @@ number-fine : (found number at : ℕ) → numberCheck found number at ≡ Fine �
 unfolding numberCheck
 number-fine found number at h = eqb-true found number (need-fine _ _ _ h)
 
-pub client-read : (s : List ℕ) (at number : ℕ) → clientRead s at number ≡ Fine → ClientFine s at number
+pub client-read-fine : (s : List ℕ) (at number : ℕ) → clientRead s at number ≡ Fine → ClientFine s at number
 unfolding clientRead
-client-read s at number h =
+client-read-fine s at number h =
     let a = both-fine _ _ h in
     let b = both-fine _ _ (a .1) in
     record {
@@ -105,35 +107,39 @@ client-read s at number h =
       required = client-fine (clientAt s at) at (b .1);
     }
 
-pub client-at : (s : List ℕ) (at n : ℕ) → firstOf (clientDue s at) n ≡ Fine → (i : ℕ) → i < n
+-- each of n clients' records, where all pass
+pub clients-fine : (s : List ℕ) (at n : ℕ) → firstOf (clientDue s at) n ≡ Fine → (i : ℕ) → i < n
     → ClientFine s (place s at i) (i + 1)
 unfolding clientDue
-client-at s at n h i l = client-read s (place s at i) (i + 1) (first-fine (clientDue s at) n h i l)
+clients-fine s at n h i l = client-read-fine s (place s at i) (i + 1) (first-fine (clientDue s at) n h i l)
 
+-- a row's: its eight slots pass
 pub record RowFine (s : List ℕ) (f n at j : ℕ) : Type 0 where
   pub whole : Whole s at rowKind
   pub slots : firstOf (slotDue s f n at j) 8 ≡ Fine
 
-pub row-read : (s : List ℕ) (f n at j : ℕ) → rowRead s f n at j ≡ Fine → RowFine s f n at j
+pub row-read-fine : (s : List ℕ) (f n at j : ℕ) → rowRead s f n at j ≡ Fine → RowFine s f n at j
 unfolding rowRead
-row-read s f n at j h = let a = both-fine _ _ h in record { whole = due-fine s at rowKind (a .0); slots = a .1 }
+row-read-fine s f n at j h = let a = both-fine _ _ h in record { whole = due-fine s at rowKind (a .0); slots = a .1 }
 
-pub row-at : (s : List ℕ) (f n at m : ℕ) → firstOf (rowDue s f n at) m ≡ Fine → (j : ℕ) → j < m
+-- each of m rows, where all pass
+pub rows-fine : (s : List ℕ) (f n at m : ℕ) → firstOf (rowDue s f n at) m ≡ Fine → (j : ℕ) → j < m
     → RowFine s f n (place s at j) j
 unfolding rowDue
-row-at s f n at m h j l = row-read s f n (place s at j) j (first-fine (rowDue s f n at) m h j l)
+rows-fine s f n at m h j l = row-read-fine s f n (place s at j) j (first-fine (rowDue s f n at) m h j l)
 
 -- rows are of one length
-pub row-place : (s : List ℕ) (f n at m : ℕ) → firstOf (rowDue s f n at) m ≡ Fine → (j : ℕ) → j ≤ m
+pub place-rows : (s : List ℕ) (f n at m : ℕ) → firstOf (rowDue s f n at) m ≡ Fine → (j : ℕ) → j ≤ m
     → place s at j ≡ at + wholeOf rowKind * j
 unfolding place
-row-place s f n at m h zero l = omega arith
-row-place s f n at m h (suc j) l =
-    let k = row-at s f n at m h j (omega arith) in
-    after-whole s (place s at j) rowKind (k .whole .found) ∙ omega (arith, row-place s f n at m h j (omega arith))
+place-rows s f n at m h zero l = omega arith
+place-rows s f n at m h (suc j) l =
+    let k = rows-fine s f n at m h j (omega arith) in
+    after-whole s (place s at j) rowKind (k .whole .found) ∙ omega (arith, place-rows s f n at m h j (omega arith))
 
 -- ---- a stream that passes
 
+-- what follows the head: the clients, the rows, and an end record that is the last
 pub record RestFine (s : List ℕ) (f n : ℕ) : Type 0 where
   pub clients : firstOf (clientDue s (toClients s)) n ≡ Fine
   pub rows : firstOf (rowDue s f n (toRows s n)) (rowsOf f) ≡ Fine
@@ -154,6 +160,7 @@ rest-fine s f n h =
       last = rw (after-whole s (toEnd s f n) endKind (w .found)) at (over-fine s (after s (toEnd s f n)) (d .1));
     }
 
+-- all of it
 pub record ReadFine (s : List ℕ) : Type 0 where
   pub head : HeadFine s
   pub rest : RestFine s (fIn s) (nIn s)

@@ -9,7 +9,7 @@ use Rattle.records.proofs.Lists.{many-same, firsts-same}
 use Rattle.plan.specs.declared.Plan.{Plan}
 use Rattle.plan.specs.Plan.{Same}
 use Rattle.stream.specs.Kind.{rowsOf}
-use Rattle.stream.specs.Write.{clientBytes, clientRecord, slotByte, slotIn, rowRecord, streamOf}
+use Rattle.stream.specs.Write.{clientBytes, clientRecord, slotByte, rowByte, rowRecord, streamOf}
 
 slot-byte-same : (plan other : Plan) → Same plan other → (x : ℕ) → slotByte plan x ≡ slotByte other x
 unfolding slotByte
@@ -20,11 +20,11 @@ slot-byte-same plan other s x =
     (below-or-not x (plan .f))
 
 pub same-stream : (plan other : Plan) → Same plan other → streamOf plan ≡ streamOf other
-unfolding streamOf clientRecord rowRecord slotIn
+unfolding streamOf clientRecord rowRecord rowByte
 same-stream plan other s =
     let clients = many-same (clientRecord plan) (clientRecord other) (plan .n)
     (λ i l. ap (clientBytes (i + 1)) (s .clients i l)) in
     let rows =
     many-same (rowRecord plan) (rowRecord other) (rowsOf (plan .f))
-    (λ j l. rw (firsts-same (slotIn plan j) (slotIn other j) 8 (λ t m. slot-byte-same plan other s (8 * j + t)))) in
+    (λ j l. rw (firsts-same (rowByte plan j) (rowByte other j) 8 (λ t m. slot-byte-same plan other s (8 * j + t)))) in
     rw (clients, rows, s .frame, s .count)

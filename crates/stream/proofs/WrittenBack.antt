@@ -17,16 +17,15 @@ use Rattle.records.specs.declared.Outcome.the-variants.{Fine}
 use Rattle.records.proofs.Checks.{below-or-not, need-fine, first-fine}
 use Rattle.records.proofs.Lists.{firsts-same, get-padded}
 use Rattle.records.proofs.Parts.{part-run, part-rest, many-part}
-use Rattle.records.proofs.Words.{Bytes, high, low}
+use Rattle.records.proofs.Words.{Bytes, word-high, word-low}
 use Rattle.plan.specs.Plan.{noClient, clientOf, ownerOf}
 use Rattle.plan.specs.Check.{planCheck}
 use Rattle.plan.proofs.Laws.{Checked, owner-fine, plan-pass}
 use Rattle.stream.specs.Kind.{headKind, clientKind, rowKind, endKind, wholeOf, rowsOf}
 use Rattle.stream.specs.Read.{fIn, nIn, place, clientAt, slotCheck, slotDue, toClients, toRows, toEnd, readCheck}
-use Rattle.stream.specs.Read.{clientIn}
-use Rattle.stream.specs.Read.{ownerIn, planOf}
-use Rattle.stream.specs.Write.{headBytes, clientBytes, clientRecord, slotByte, slotIn, rowRecord, streamOf}
-use Rattle.stream.proofs.Records.{ClientFine, RowFine, ReadFine, after-whole, client-at, row-at, read-fine}
+use Rattle.stream.specs.Read.{clientIn, ownerIn, planOf}
+use Rattle.stream.specs.Write.{headRecord, clientBytes, clientRecord, slotByte, rowByte, rowRecord, streamOf}
+use Rattle.stream.proofs.Records.{ClientFine, RowFine, ReadFine, after-whole, clients-fine, rows-fine, read-fine}
 use Rattle.stream.proofs.Lengths.{length-client, length-row}
 
 -- ---- one record
@@ -38,7 +37,8 @@ unfolding clientBytes clientAt
 client-back s at number b f =
     let found : getD s (at + 0) 0 ≡ clientKind = ap (λ (x : ℕ). getD s x 0) (add-zero at) ∙ f .whole .found in
     let numbered = f .numbered in
-    part-run s at (wholeOf clientKind) (f .whole .room) ∙ simp (found, numbered, high s b, low s b) (simp add-assoc)
+    part-run s at (wholeOf clientKind) (f .whole .room)
+    ∙ simp (found, numbered, word-high s b, word-low s b) (simp add-assoc)
 
 -- what passes as the byte of a slot: its owner, or 255 past f
 slot-back : (f n x byte at : ℕ) → slotCheck f n x byte at ≡ Fine → pick (ltb x f) byte 255 ≡ byte
@@ -65,7 +65,7 @@ module _ (s : List ℕ) (z : ReadFine s) where
 
   -- row j of the rows
   row : (j : ℕ) → j < rowsOf (fIn s) → RowFine s (fIn s) (nIn s) (place s (toRows s (nIn s)) j) j
-  row j l = row-at s (fIn s) (nIn s) (toRows s (nIn s)) (rowsOf (fIn s)) (z .rest .rows) j l
+  row j l = rows-fine s (fIn s) (nIn s) (toRows s (nIn s)) (rowsOf (fIn s)) (z .rest .rows) j l
 
   clients-back : Bytes s → many (clientRecord (planOf s)) (nIn s) ++ drop (toRows s (nIn s)) s ≡ drop (toClients s) s
   unfolding clientRecord place
@@ -73,7 +73,7 @@ module _ (s : List ℕ) (z : ReadFine s) where
       many-part (clientRecord (planOf s)) s (place s (toClients s)) (nIn s)
       (λ (i : ℕ) (l : i < nIn s).
       let at : ℕ = place s (toClients s) i in
-      let c = client-at s (toClients s) (nIn s) (z .rest .clients) i l in
+      let c = clients-fine s (toClients s) (nIn s) (z .rest .clients) i l in
       let same : clientBytes (i + 1) (clientAt s at) ≡ clientBytes (i + 1) (clientOf (planOf s) i) =
       ap (clientBytes (i + 1)) (sym (client-in i l)) in
       let w = length-client (i + 1) (clientOf (planOf s) i) in (
@@ -82,8 +82,8 @@ module _ (s : List ℕ) (z : ReadFine s) where
       ))
 
   slots-back : (j t : ℕ) → j < rowsOf (fIn s) → t < 8
-      → slotIn (planOf s) j t ≡ getD s (place s (toRows s (nIn s)) j + (1 + t)) 0
-  unfolding slotIn slotByte slotDue planOf
+      → rowByte (planOf s) j t ≡ getD s (place s (toRows s (nIn s)) j + (1 + t)) 0
+  unfolding rowByte slotByte slotDue planOf
   slots-back j t l m =
       let f = fIn s in
       let n = nIn s in
@@ -106,8 +106,8 @@ module _ (s : List ℕ) (z : ReadFine s) where
       let at : ℕ = place s (toRows s (nIn s)) j in
       let w = row j l .whole in
       let found : getD s (at + 0) 0 ≡ rowKind = ap (λ (x : ℕ). getD s x 0) (add-zero at) ∙ w .found in
-      let slots : firsts (λ (t : ℕ). getD s (at + (1 + t)) 0) 8 ≡ firsts (slotIn (planOf s) j) 8 =
-      firsts-same (λ (t : ℕ). getD s (at + (1 + t)) 0) (slotIn (planOf s) j) 8 (λ t m. sym (slots-back j t l m)) in
+      let slots : firsts (λ (t : ℕ). getD s (at + (1 + t)) 0) 8 ≡ firsts (rowByte (planOf s) j) 8 =
+      firsts-same (λ (t : ℕ). getD s (at + (1 + t)) 0) (rowByte (planOf s) j) 8 (λ t m. sym (slots-back j t l m)) in
       part-run s at (wholeOf rowKind) (w .room)
       ∙ ap (λ (k : ℕ). k ∷ firsts (λ (t : ℕ). getD s (at + (1 + t)) 0) 8) found
       ∙ ap (λ (r : List ℕ). rowKind ∷ r) slots
@@ -137,13 +137,13 @@ module _ (s : List ℕ) (z : ReadFine s) where
       ∙ append-nil (part s at (wholeOf endKind))
       ∙ one)
 
-  head-back : headBytes (planOf s) ++ drop (toClients s) s ≡ s
+  head-back : headRecord (planOf s) ++ drop (toClients s) s ≡ s
   unfolding planOf
   head-back =
       let w = z .head .whole in
       let three : part s 0 (wholeOf headKind) ≡ headKind ∷ fIn s ∷ nIn s ∷ [] =
       part-run s 0 (wholeOf headKind) (w .room) ∙ ap (λ (k : ℕ). k ∷ fIn s ∷ nIn s ∷ []) (w .found) in
-      ap (λ (k : ℕ). headBytes (planOf s) ++ drop k s) (after-whole s 0 headKind (w .found))
+      ap (λ (k : ℕ). headRecord (planOf s) ++ drop k s) (after-whole s 0 headKind (w .found))
       ∙ ap (λ (r : List ℕ). r ++ drop (wholeOf headKind) s) (sym three)
       ∙ part-rest s 0 (wholeOf headKind)
 
@@ -151,7 +151,7 @@ module _ (s : List ℕ) (z : ReadFine s) where
   unfolding streamOf planOf
   stream-back b =
       let plan = planOf s in
-      let head : List ℕ = headBytes plan in
+      let head : List ℕ = headRecord plan in
       let clients : List ℕ = many (clientRecord plan) (nIn s) in
       let rows : List ℕ = many (rowRecord plan) (rowsOf (fIn s)) in
       let end : List ℕ = drop (toEnd s (fIn s) (nIn s)) s in
@@ -176,7 +176,7 @@ module _ (s : List ℕ) (z : ReadFine s) where
               n-high = z .head .n-high;
               required =
                   λ (i : ℕ) (l : i < n).
-                  rw (client-in i l) (client-at s (toClients s) n (z .rest .clients) i l .required);
+                  rw (client-in i l) (clients-fine s (toClients s) n (z .rest .clients) i l .required);
             };
         owned =
             λ (x : ℕ) (l : x < f).

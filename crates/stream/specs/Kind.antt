@@ -36,12 +36,12 @@ abbrev pub wholeOf : ℕ → ℕ
 wholeOf kind = 1 + bodyOf kind
 
 -- "Kinds 0, 4 to 8 and 10 to 255 are reserved"
-abbrev pub reserved : ℕ → Bool
-reserved kind = pick (eqb kind 0) true (pick (between 4 kind 8) true (leb 10 kind))
+abbrev pub isReserved : ℕ → Bool
+isReserved kind = pick (eqb kind 0) true (pick (between 4 kind 8) true (leb 10 kind))
 
 -- 0 where the kind is due; else 2, reserved, or 3, known but not due here
 unfoldable pub classOf : ℕ → ℕ → ℕ
-classOf due kind = pick (reserved kind) refusal.reserved (pick (eqb kind due) 0 refusal.notDue)
+classOf due kind = pick (isReserved kind) refusal.reserved (pick (eqb kind due) 0 refusal.notDue)
 
 -- "as many kind 3 as f needs": f/8 rounded up
 abbrev pub rowsOf : ℕ → ℕ

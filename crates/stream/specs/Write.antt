@@ -21,8 +21,8 @@ use Rattle.stream.specs.declared.Written.the-variants as written
 -- ---- the stream
 
 -- kind 1: f, n
-abbrev pub headBytes : Plan → List ℕ
-headBytes plan = headKind ∷ plan .f ∷ plan .n ∷ []
+abbrev pub headRecord : Plan → List ℕ
+headRecord plan = headKind ∷ plan .f ∷ plan .n ∷ []
 
 -- kind 2: client number, p, q, a, b
 unfoldable pub clientBytes : ℕ → Client → List ℕ
@@ -37,17 +37,17 @@ unfoldable pub slotByte : Plan → ℕ → ℕ
 slotByte plan x = pick (ltb x (plan .f)) (ownerOf plan x) 255
 
 -- slot t of row j
-unfoldable pub slotIn : Plan → ℕ → ℕ → ℕ
-slotIn plan j t = slotByte plan (8 * j + t)
+unfoldable pub rowByte : Plan → ℕ → ℕ → ℕ
+rowByte plan j t = slotByte plan (8 * j + t)
 
 -- kind 3: the owners of the next eight slots
 unfoldable pub rowRecord : Plan → ℕ → List ℕ
-rowRecord plan j = rowKind ∷ firsts (slotIn plan j) 8
+rowRecord plan j = rowKind ∷ firsts (rowByte plan j) 8
 
 -- "one kind 1, then clients 1 to n, then as many kind 3 as f needs, then kind 9"
 unfoldable pub streamOf : Plan → List ℕ
 streamOf plan =
-    headBytes plan ++ many (clientRecord plan) (plan .n) ++ many (rowRecord plan) (rowsOf (plan .f)) ++ (endKind ∷ [])
+    headRecord plan ++ many (clientRecord plan) (plan .n) ++ many (rowRecord plan) (rowsOf (plan .f)) ++ (endKind ∷ [])
 
 -- ---- a write into a lent output of this many bytes
 

@@ -16,6 +16,7 @@ pub const END: u8 = 9; // end
 // Body lengths by kind, 0 to 15.
 const BODY: [u8; 16] = [0, 2, 9, 8, 0, 0, 0, 0, 0, 0, 0, 0, 0, 0, 0, 0];
 
+// A kind's body length; 0 past the table, where every kind is reserved.
 pub fn body_of(kind: u8) -> usize
     ensures { λ r. ⌜ (r ≡ bodyOf kind) × (r < 256) ⌝ }
 {

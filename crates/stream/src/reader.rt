@@ -228,6 +228,7 @@ pub fn check_stream(s: &[u8]) -> Outcome
 
 // ---- the plan that the records hold
 
+// The clients' requirements, 0 past n.
 fn clients_in(s: &[u8], at: usize, n: usize) -> [Client; 8]
     requires { ⌜ (at ≤ 4096) × (n ≤ 8) × (firstOf (clientDue (now s) at) n ≡ Fine) ⌝ }
     ensures { λ r. ⌜ r ≡ padded (clientIn (now (s .entry)) at) n 8 noClient ⌝ }
@@ -249,6 +250,7 @@ fn clients_in(s: &[u8], at: usize, n: usize) -> [Client; 8]
     clients
 }
 
+// The owners, 0 past f.
 fn owners_in(s: &[u8], at: usize, f: usize, n: usize) -> [u8; 64]
     requires { ⌜ (at ≤ 4096) × (f ≤ 64) × (firstOf (rowDue (now s) f n at) (rowsOf f) ≡ Fine) ⌝ }
     ensures { λ r. ⌜ r ≡ padded (ownerIn (now (s .entry)) at) f 64 0 ⌝ }

@@ -10,13 +10,14 @@ ghost use lib.ListN.{length};
 ghost use Rattle.records.specs.Pieces.{many, firsts};
 ghost use Rattle.records.specs.Put.{Put};
 ghost use Rattle.stream.specs.Kind.{headKind, clientKind, rowKind, wholeOf, rowsOf};
-ghost use Rattle.stream.specs.Write.{headBytes, clientBytes, clientRecord, slotByte, slotIn, rowRecord, streamOf};
+ghost use Rattle.stream.specs.Write.{headRecord, clientBytes, clientRecord, slotByte, rowByte};
+ghost use Rattle.stream.specs.Write.{rowRecord, streamOf};
 ghost use Rattle.stream.specs.Trip.{Words, Held};
 
 // The record of f and n.
 fn put_head(out: &mut [u8], plan: Plan) -> usize
     requires { ⌜ (plan .f ≤ 64) × (plan .n ≤ 8) × (wholeOf headKind ≤ length (now out)) ⌝ }
-    ensures { λ r. ⌜ Put (now (out .entry)) 0 (headBytes plan) (now (out .exit)) r ⌝ }
+    ensures { λ r. ⌜ Put (now (out .entry)) 0 (headRecord plan) (now (out .exit)) r ⌝ }
 {
     let a = put_byte(out, 0, kind::HEAD);
     let b = put_byte(out, a, plan.f as u8);
@@ -65,7 +66,7 @@ fn slot_byte(plan: Plan, x: usize) -> u8
 // The eight bytes of row j.
 fn put_slots(out: &mut [u8], at: usize, plan: Plan, j: usize) -> usize
     requires { ⌜ (plan .f ≤ 64) × (j < 8) × (at + 8 ≤ length (now out)) ⌝ }
-    ensures { λ r. ⌜ Put (now (out .entry)) at (firsts (slotIn plan j) 8) (now (out .exit)) r ⌝ }
+    ensures { λ r. ⌜ Put (now (out .entry)) at (firsts (rowByte plan j) 8) (now (out .exit)) r ⌝ }
 {
     let mut to = at;
     let mut t = 0;

@@ -1,1 +1,2 @@
+-- The definitions of `text`: a file rests only on those before it.
 pub mod Text

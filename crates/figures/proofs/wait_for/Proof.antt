@@ -7,7 +7,7 @@ use Rattle.records.specs.Refusal as refusal
 use Rattle.records.proofs.Checks.{range-fine}
 use Rattle.figures.proofs.Questions.{figure-fine}
 use Rattle.figures.specs.Check.{mostWaiting}
-use Rattle.figures.proofs.Answers.{given-fine, given-small, waits-refused, waits-given, waits-stopped}
+use Rattle.figures.proofs.Answers.{given-fine, figure-small, waits-refused, waits-given, waits-stopped}
 use Rattle.figures.proofs.wait_for.Statement.{statement}
 use Rattle.figures.proofs.wait_for.Tie as tie
 
@@ -49,7 +49,7 @@ wait-of-requires c κs =
     let is = rw (given .given .1) at (figures .ensures) in
     let fine = given-fine (args .plan) (args .client) _ is in
     let asked = figure-fine (args .plan) (args .client) fine in
-    let small = given-small (args .plan) (args .client) _ asked (is .figure fine) in
+    let small = figure-small (args .plan) (args .client) _ asked (is .figure fine) in
     let k = range-fine (args .waiting) mostWaiting refusal.waiting (sym (range .ensures) ∙ c .enum-told .given .1) in
     ((asked .checked .bounds .f-high, small .0, small .1), (small .2, k .1))
 

@@ -8,9 +8,8 @@ use lib.ListN.{length, drop}
 use borrow.Author.Needs.{needs}
 use Rattle.records.proofs.Puts.{put-front}
 use Rattle.plan.proofs.Laws.{plan-fine}
-use Rattle.stream.specs.Read.{place}
 use Rattle.stream.specs.Write.{streamOf}
-use Rattle.stream.proofs.Answers.{plan-refused, room-refused, given, not-reread, reread}
+use Rattle.stream.proofs.Answers.{plan-refused, room-refused, write-given, not-reread, reread}
 use Rattle.stream.proofs.write.Statement.{statement}
 use Rattle.stream.proofs.write.Tie as tie
 
@@ -73,7 +72,7 @@ returns-3 c =
     let n : length (streamOf plan) ≤ length out = omega (arith, stream-length .ensures) in
     let size : put-stream .result ≡ length (streamOf plan) = put .0 .place ∙ zero-add (length (streamOf plan)) in
     let now = put-front (put .0) n in
-    rw (size, now) (given plan out fine n, reread plan (drop (length (streamOf plan)) out) (put .1) fine)
+    rw (size, now) (write-given plan out fine n, reread plan (drop (length (streamOf plan)) out) (put .1) fine)
 
 pub write-spec : {M : Type 1} → statement M
 write-spec =

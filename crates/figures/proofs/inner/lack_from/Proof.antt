@@ -5,13 +5,12 @@ use mathlib.Core.Path.{_≡_, refl, _∙_}
 use Prim.Native.Nat.{_+_, _-_, _%_, _≤_}
 use native.Mathlib.Omega.{arith}
 use borrow.Author.Needs.{needs}
-use lib.Dec.{eqb}
 use lib.ListN.{getD}
 use Rattle.frame.specs.Frame.{within}
 use Rattle.frame.specs.Largest.{largest, lack, lackFrom}
 use Rattle.frame.proofs.Scaled.{largest-on}
-use Rattle.records.proofs.Checks.{one-or-none}
 use Rattle.plan.specs.Plan.{ownIn}
+use Rattle.plan.proofs.Laws.{client-most}
 use Rattle.figures.proofs.Laws.{count-small, count-on, place-zero, in-frame, place-on, lack-at}
 use Rattle.figures.proofs.inner.lack_from.Statement.{statement}
 use Rattle.figures.proofs.inner.lack_from.Tie as tie
@@ -58,7 +57,7 @@ add-w c =
     let plan = args .plan in
     let loop = c .before .before .before .before .loop in
     let counted = count-small (plan .owners) (plan .f) (args .client) (args .s) (loop .j) (omega arith) in
-    let most = one-or-none (eqb (getD (plan .owners) (loop .at) 0) (args .client)) in
+    let most = client-most (args .client) (getD (plan .owners) (loop .at) 0) in
     omega (arith, c .owned-by .ensures)
 
 next-requires : tie.Need-next-requires Inv-loop μ-loop

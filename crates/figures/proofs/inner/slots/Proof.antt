@@ -4,11 +4,10 @@ use mathlib.Core.Path.{_≡_, refl}
 use Prim.Native.Nat.{_-_, _≤_}
 use native.Mathlib.Omega.{arith}
 use borrow.Author.Needs.{needs}
-use lib.Dec.{eqb}
 use lib.ListN.{getD}
 use Rattle.frame.specs.Frame.{within}
-use Rattle.records.proofs.Checks.{one-or-none}
 use Rattle.plan.specs.Plan.{ownIn}
+use Rattle.plan.proofs.Laws.{client-most}
 use Rattle.figures.proofs.Laws.{count-small, place-first, count-on}
 use Rattle.figures.proofs.inner.slots.Statement.{statement}
 use Rattle.figures.proofs.inner.slots.Tie as tie
@@ -35,7 +34,7 @@ add-m c =
     let plan = args .plan in
     let loop = c .before .before .loop in
     let counted = count-small (plan .owners) (plan .f) (args .client) 0 (loop .at) (omega arith) in
-    let most = one-or-none (eqb (getD (plan .owners) (loop .at) 0) (args .client)) in
+    let most = client-most (args .client) (getD (plan .owners) (loop .at) 0) in
     omega (arith, c .owned-by .ensures)
 
 add-at : tie.Need-add-at Inv-loop μ-loop

@@ -9,12 +9,11 @@ use native.Mathlib.Omega.{arith}
 use borrow.Author.Count.{below-more}
 use borrow.Author.Needs.{needs}
 use borrow.Author.Tests.{not-true, not-false}
-use lib.Dec.{eqb}
 use lib.ListN.{getD}
 use Rattle.frame.specs.Frame.{within}
 use Rattle.frame.proofs.Within.{within-none}
-use Rattle.records.proofs.Checks.{one-or-none}
 use Rattle.plan.specs.Plan.{clientOf, ownOf}
+use Rattle.plan.proofs.Laws.{client-most}
 use Rattle.figures.proofs.Laws.{frame-of, count-small, slots-small, count-on, place-zero, place-on, in-frame}
 use Rattle.judge.specs.Rules.{inTime, IsLate}
 use Rattle.judge.specs.Judge.{AllOk}
@@ -119,7 +118,7 @@ add-w c =
     let plan = in-clients .before .before .before .args .plan in
     let client = in-clients .clients .i + 1 in
     let w = count-small (plan .owners) (plan .f) client (in-starts .starts .s) (lengths .j) (omega arith) in
-    let one = one-or-none (eqb (getD (plan .owners) (lengths .at) 0) client) in
+    let one = client-most client (getD (plan .owners) (lengths .at) 0) in
     omega (arith, c .owned-by .ensures)
 
 next-requires : tie.Need-next-requires Inv-lengths μ-lengths Inv-starts μ-starts Inv-clients μ-clients

@@ -9,7 +9,7 @@ use Rattle.records.specs.First.{firstOf}
 use Rattle.records.specs.declared.Outcome.the-variants.{Fine}
 use Rattle.records.proofs.Checks.{first-more, first-stop}
 use Rattle.plan.specs.Plan.{noClient}
-use Rattle.plan.specs.Check.{clientCheck, clientStep}
+use Rattle.plan.specs.Check.{clientCheck, clientCheckOf}
 use Rattle.plan.proofs.inner.check_clients.Statement.{statement}
 use Rattle.plan.proofs.inner.check_clients.Tie as tie
 
@@ -36,13 +36,13 @@ enum-known-outcome : tie.Need-enum-known-outcome Inv-loop μ-loop
 enum-known-outcome c = search needs
 
 returns : tie.Need-returns Inv-loop μ-loop
-unfolding clientStep
+unfolding clientCheckOf
 returns c =
     let args = c .before .before .before .before .before .before .before .before .args in
     let check-client = c .before .before .before .check-client in
     let l = c .before .before .before .before .before .before .loop in
     let plan = args .plan in
-    first-stop (clientStep plan) (plan .n) (l .i) (omega arith) (l .inv .1) (check-client .ensures)
+    first-stop (clientCheckOf plan) (plan .n) (l .i) (omega arith) (l .inv .1) (check-client .ensures)
     (c .before .outcome .given .1)
 
 enum-told : tie.Need-enum-told Inv-loop μ-loop
@@ -55,16 +55,16 @@ loop-less : tie.Need-loop-less Inv-loop μ-loop
 loop-less c = search needs
 
 loop-again : tie.Need-loop-again Inv-loop μ-loop
-unfolding clientStep
+unfolding clientCheckOf
 loop-again c =
     let args = c .before .before .before .before .before .before .before .args in
     let check-client = c .before .before .check-client in
     let l = c .before .before .before .before .before .loop in
     let plan = args .plan in
-    (omega arith, first-more (clientStep plan) (l .i) (l .inv .1) (check-client .ensures) (c .enum-told .given .1))
+    (omega arith, first-more (clientCheckOf plan) (l .i) (l .inv .1) (check-client .ensures) (c .enum-told .given .1))
 
 returns-2 : tie.Need-returns-2 Inv-loop μ-loop
-unfolding clientStep
+unfolding clientCheckOf
 returns-2 c =
     let args = c .before .before .before .args in
     let e : c .before .loop .i ≡ args .plan .n = omega arith in sym (rw e at (c .before .loop .inv .1))

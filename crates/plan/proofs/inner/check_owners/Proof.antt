@@ -8,7 +8,7 @@ use lib.ListN.{getD}
 use Rattle.records.specs.First.{firstOf}
 use Rattle.records.specs.declared.Outcome.the-variants.{Fine}
 use Rattle.records.proofs.Checks.{first-more, first-stop}
-use Rattle.plan.specs.Check.{ownerCheck, ownerStep, ownersCheck}
+use Rattle.plan.specs.Check.{ownerCheck, ownerCheckOf, ownersCheck}
 use Rattle.plan.proofs.inner.check_owners.Statement.{statement}
 use Rattle.plan.proofs.inner.check_owners.Tie as tie
 
@@ -32,13 +32,13 @@ enum-known-outcome : tie.Need-enum-known-outcome Inv-loop μ-loop
 enum-known-outcome c = search needs
 
 returns : tie.Need-returns Inv-loop μ-loop
-unfolding ownerStep ownersCheck
+unfolding ownerCheckOf ownersCheck
 returns c =
     let args = c .before .before .before .before .before .before .before .args in
     let check-owner = c .before .before .before .check-owner in
     let l = c .before .before .before .before .before .loop in
     let plan = args .plan in
-    first-stop (ownerStep plan) (plan .f) (l .x) (omega arith) (l .inv .1) (check-owner .ensures)
+    first-stop (ownerCheckOf plan) (plan .f) (l .x) (omega arith) (l .inv .1) (check-owner .ensures)
     (c .before .outcome .given .1)
 
 enum-told : tie.Need-enum-told Inv-loop μ-loop
@@ -51,16 +51,16 @@ loop-less : tie.Need-loop-less Inv-loop μ-loop
 loop-less c = search needs
 
 loop-again : tie.Need-loop-again Inv-loop μ-loop
-unfolding ownerStep
+unfolding ownerCheckOf
 loop-again c =
     let args = c .before .before .before .before .before .before .args in
     let check-owner = c .before .before .check-owner in
     let l = c .before .before .before .before .loop in
     let plan = args .plan in
-    (omega arith, first-more (ownerStep plan) (l .x) (l .inv .1) (check-owner .ensures) (c .enum-told .given .1))
+    (omega arith, first-more (ownerCheckOf plan) (l .x) (l .inv .1) (check-owner .ensures) (c .enum-told .given .1))
 
 returns-2 : tie.Need-returns-2 Inv-loop μ-loop
-unfolding ownersCheck ownerStep
+unfolding ownersCheck ownerCheckOf
 returns-2 c =
     let args = c .before .before .before .args in
     let e : c .before .loop .x ≡ args .plan .f = omega arith in sym (rw e at (c .before .loop .inv .1))

@@ -5,23 +5,22 @@ use mathlib.Core.Path.{_≡_, sym}
 use Prim.Native.Nat.{_-_, _≤_}
 use native.Mathlib.Omega.{arith}
 use borrow.Author.Needs.{needs}
-use lib.Dec.{eqb}
 use lib.ListN.{getD}
 use Rattle.frame.specs.Frame.{within}
 use Rattle.frame.proofs.Within.{within-none}
 use Rattle.records.specs.Pieces.{padded}
 use Rattle.records.proofs.Lists.{padded-none, padded-more}
-use Rattle.records.proofs.Checks.{one-or-none}
 use Rattle.plan.specs.Plan.{ownIn}
+use Rattle.plan.proofs.Laws.{client-most}
 use Rattle.figures.proofs.Laws.{count-small, count-on, place-first}
-use Rattle.search.specs.Trees.{slotIn}
+use Rattle.search.specs.Trees.{filledIn}
 use Rattle.search.proofs.Sets.{idle-before, slot-at}
 use Rattle.search.proofs.inner.fill.Statement.{statement}
 use Rattle.search.proofs.inner.fill.Tie as tie
 
 abbrev Inv-loop : tie.InvT-loop
 Inv-loop filling f owners table₀ j₀ x₀ table j x =
-    (x ≤ f) × (j ≡ within (ownIn owners f 0) 0 x) × (table ≡ padded (slotIn owners f filling) x 64 0)
+    (x ≤ f) × (j ≡ within (ownIn owners f 0) 0 x) × (table ≡ padded (filledIn owners f filling) x 64 0)
 
 abbrev μ-loop : tie.MeasureT-loop
 μ-loop filling f owners table₀ j₀ x₀ table j x = f - x
@@ -49,7 +48,7 @@ add-j c =
     let plan = c .before .before .before .before .before .args .plan in
     let loop = c .before .before .before .loop in
     let counted = count-small (plan .owners) (plan .f) 0 0 (loop .x) (omega arith) in
-    let most = one-or-none (eqb (getD (plan .owners) (loop .x) 0) 0) in
+    let most = client-most 0 (getD (plan .owners) (loop .x) 0) in
     omega (arith, c .owned-by .ensures)
 
 add-x : tie.Need-add-x Inv-loop μ-loop
@@ -69,7 +68,7 @@ loop-again c =
     let stored = slot-at owners f (args .filling) x (loop .j) _ (loop .inv .1) (c .before .slot .ensures) in (
       omega arith,
       count-on owners f 0 0 x (loop .j) x _ (loop .inv .1) place (c .owned-by .ensures),
-      rw (loop .inv .2, stored) (padded-more (slotIn owners f (args .filling)) x 64 0 (omega arith)),
+      rw (loop .inv .2, stored) (padded-more (filledIn owners f (args .filling)) x 64 0 (omega arith)),
     )
 
 returns : tie.Need-returns Inv-loop μ-loop

@@ -1,4 +1,4 @@
--- `search::inner::slot` meets its contract.
+-- `search::inner::slot` meets its contract: each branch's test is the definition's.
 -- Assumes nothing.
 use borrow.Author.Tests.{eq-eqb, ne-eqb}
 use Rattle.search.proofs.inner.slot.Statement.{statement}

@@ -6,11 +6,11 @@ use mathlib.Core.Logic.{⊎-elim}
 use native.Mathlib.Omega.{arith}
 use borrow.Author.Tests.{le-leb, lt-leb, eq-eqb, ne-eqb}
 use Rattle.records.proofs.Checks.{tests}
-use Rattle.stream.specs.Kind.{reserved, classOf}
+use Rattle.stream.specs.Kind.{isReserved, classOf}
 use Rattle.stream.proofs.kind.class_of.Statement.{statement}
 use Rattle.stream.proofs.kind.class_of.Tie as tie
 
-plain : (c : tie.Joined1) → reserved (c .before .before .args .kind) ≡ false
+plain : (c : tie.Joined1) → isReserved (c .before .before .args .kind) ≡ false
 plain c =
     let k = c .before .before .args .kind in
     let n = ne-eqb k 0 (c .before .match .rest .1) in

@@ -6,7 +6,7 @@ use borrow.Author.Needs.{needs}
 use Rattle.records.proofs.Checks.{stops, passes}
 use Rattle.stream.specs.Kind.{clientKind}
 use Rattle.stream.specs.Read.{clientRead}
-use Rattle.stream.proofs.Records.{due-found, client-at}
+use Rattle.stream.proofs.Records.{due-found}
 use Rattle.stream.proofs.reader.check_client.Statement.{statement}
 use Rattle.stream.proofs.reader.check_client.Tie as tie
 
@@ -56,8 +56,8 @@ returns-2 c =
     let check-due = c .before .before .before .before .before .before .before .check-due in
     let enum-told = c .before .before .before .before .before .enum-told in
     let check-number = c .before .before .before .check-number in
-    let client-at′ = c .before .before .client-at in
-    let required = rw (client-at′ .ensures) at (c .before .check-client .ensures) in
+    let client-at = c .before .before .client-at in
+    let required = rw (client-at .ensures) at (c .before .check-client .ensures) in
     passes (check-due .ensures) (enum-told .given .1) (rw (check-number .ensures, required) at (c .or-else .ensures))
 
 pub check-client-spec : {M : Type 1} → statement M

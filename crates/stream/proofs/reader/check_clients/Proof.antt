@@ -8,7 +8,7 @@ use borrow.Author.Needs.{needs}
 use Rattle.records.specs.First.{firstOf}
 use Rattle.records.specs.declared.Outcome.the-variants.{Fine}
 use Rattle.records.proofs.Checks.{first-more, first-stop}
-use Rattle.stream.specs.Read.{after, place, clientDue}
+use Rattle.stream.specs.Read.{place, clientDue}
 use Rattle.stream.proofs.Records.{place-more}
 use Rattle.stream.proofs.reader.check_clients.Statement.{statement}
 use Rattle.stream.proofs.reader.check_clients.Tie as tie

@@ -3,7 +3,7 @@
 use mathlib.Core.Path.{_∙_}
 use borrow.Author.Needs.{needs}
 use Rattle.records.proofs.Checks.{stops, passes}
-use Rattle.stream.specs.Read.{after, endRead}
+use Rattle.stream.specs.Read.{endRead}
 use Rattle.stream.proofs.reader.check_end.Statement.{statement}
 use Rattle.stream.proofs.reader.check_end.Tie as tie
 

@@ -2,8 +2,10 @@
 -- then the end.
 -- Assumes nothing.
 use borrow.Author.Needs.{needs}
+use Rattle.records.specs.First.{firstOf}
 use Rattle.records.proofs.Checks.{stops, passes}
-use Rattle.stream.specs.Read.{after, place, restRead}
+use Rattle.stream.specs.Kind.{rowsOf}
+use Rattle.stream.specs.Read.{rowDue, toRows, restRead}
 use Rattle.stream.proofs.reader.check_rest.Statement.{statement}
 use Rattle.stream.proofs.reader.check_rest.Tie as tie
 
@@ -19,9 +21,9 @@ enum-known-clients c = search needs
 returns : tie.Need-returns
 unfolding restRead
 returns c =
-    let after′ = c .before .before .before .before .after in
+    let after = c .before .before .before .before .after in
     let check-clients = c .before .before .before .check-clients in
-    stops _ (rw (after′ .ensures .0) at (check-clients .ensures)) (c .before .clients .given .1)
+    stops _ (rw (after .ensures .0) at (check-clients .ensures)) (c .before .clients .given .1)
 
 enum-told : tie.Need-enum-told
 enum-told c = search needs
@@ -38,14 +40,16 @@ enum-known-rows c = search needs
 returns-2 : tie.Need-returns-2
 unfolding restRead
 returns-2 c =
-    let after′ = c .before .before .before .before .before .before .before .before .after in
+    let a = c .before .before .before .before .before .before .before .before .before .before .args in
+    let after = c .before .before .before .before .before .before .before .before .after in
     let check-clients = c .before .before .before .before .before .before .before .check-clients in
     let enum-told = c .before .before .before .before .before .enum-told in
-    let place′ = c .before .before .before .before .place in
+    let place = c .before .before .before .before .place in
     let check-rows = c .before .before .before .check-rows in
-    let clients = rw (after′ .ensures .0) at (check-clients .ensures) in
-    let rows = rw (place′ .ensures .0, after′ .ensures .0) at (check-rows .ensures) in
-    passes clients (enum-told .given .1) (stops _ rows (c .before .rows .given .1))
+    let clients = rw (after .ensures .0) at (check-clients .ensures) in
+    let rows = rw (place .ensures .0, after .ensures .0) at (check-rows .ensures) in
+    let due = firstOf (rowDue (a .s .now) (a .f) (a .n) (toRows (a .s .now) (a .n))) (rowsOf (a .f)) in
+    passes clients (enum-told .given .1) (stops {x = due} _ rows (c .before .rows .given .1))
 
 enum-told-2 : tie.Need-enum-told-2
 enum-told-2 c = search needs
@@ -62,16 +66,18 @@ check-end-requires c κs = search needs
 returns-3 : tie.Need-returns-3
 unfolding restRead
 returns-3 c =
-    let after′ = c .before .before .before .before .before .before .before .before .before .after in
+    let a = c .before .before .before .before .before .before .before .before .before .before .before .args in
+    let after = c .before .before .before .before .before .before .before .before .before .after in
     let check-clients = c .before .before .before .before .before .before .before .before .check-clients in
     let enum-told = c .before .before .before .before .before .before .enum-told in
-    let place′ = c .before .before .before .before .before .place in
+    let place = c .before .before .before .before .before .place in
     let check-rows = c .before .before .before .before .check-rows in
     let enum-told2 = c .before .before .enum-told2 in
-    let clients = rw (after′ .ensures .0) at (check-clients .ensures) in
-    let rows = rw (place′ .ensures .0, after′ .ensures .0) at (check-rows .ensures) in
-    let end = rw (c .before .place2 .ensures .0, place′ .ensures .0, after′ .ensures .0) at (c .check-end .ensures) in
-    passes clients (enum-told .given .1) (passes rows (enum-told2 .given .1) end)
+    let clients = rw (after .ensures .0) at (check-clients .ensures) in
+    let rows = rw (place .ensures .0, after .ensures .0) at (check-rows .ensures) in
+    let end = rw (c .before .place2 .ensures .0, place .ensures .0, after .ensures .0) at (c .check-end .ensures) in
+    let due = firstOf (rowDue (a .s .now) (a .f) (a .n) (toRows (a .s .now) (a .n))) (rowsOf (a .f)) in
+    passes clients (enum-told .given .1) (passes {x = due} rows (enum-told2 .given .1) end)
 
 pub check-rest-spec : {M : Type 1} → statement M
 check-rest-spec =

@@ -1,9 +1,10 @@
 -- `stream::reader::check_row` meets its contract: the record decides where it is refused, else its eight bytes.
 -- Assumes nothing.
 use borrow.Author.Needs.{needs}
+use Rattle.records.specs.First.{firstOf}
 use Rattle.records.proofs.Checks.{stops, passes}
 use Rattle.stream.specs.Kind.{rowKind}
-use Rattle.stream.specs.Read.{rowRead}
+use Rattle.stream.specs.Read.{slotDue, rowRead}
 use Rattle.stream.proofs.Records.{due-found}
 use Rattle.stream.proofs.reader.check_row.Statement.{statement}
 use Rattle.stream.proofs.reader.check_row.Tie as tie
@@ -31,8 +32,10 @@ check-slots-requires c κs =
 returns-2 : tie.Need-returns-2
 unfolding rowRead
 returns-2 c =
+    let a = c .before .before .before .before .before .args in
     let check-due = c .before .before .before .check-due in
-    passes (check-due .ensures) (c .before .enum-told .given .1) (c .check-slots .ensures)
+    let slots = firstOf (slotDue (a .s .now) (a .f) (a .n) (a .at) (a .j)) 8 in
+    passes {y = slots} (check-due .ensures) (c .before .enum-told .given .1) (c .check-slots .ensures)
 
 pub check-row-spec : {M : Type 1} → statement M
 check-row-spec =

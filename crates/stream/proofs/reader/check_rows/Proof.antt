@@ -9,7 +9,7 @@ use Rattle.records.specs.First.{firstOf}
 use Rattle.records.specs.declared.Outcome.the-variants.{Fine}
 use Rattle.records.proofs.Checks.{first-more, first-stop}
 use Rattle.stream.specs.Kind.{rowsOf}
-use Rattle.stream.specs.Read.{after, place, rowDue}
+use Rattle.stream.specs.Read.{place, rowDue}
 use Rattle.stream.proofs.Records.{place-more}
 use Rattle.stream.proofs.reader.check_rows.Statement.{statement}
 use Rattle.stream.proofs.reader.check_rows.Tie as tie

@@ -8,8 +8,8 @@ use borrow.Author.Needs.{needs}
 use Rattle.records.specs.Pieces.{padded}
 use Rattle.records.proofs.Lists.{padded-none, padded-more}
 use Rattle.plan.specs.Plan.{noClient}
-use Rattle.stream.specs.Read.{after, place, clientIn}
-use Rattle.stream.proofs.Records.{place-more, client-at}
+use Rattle.stream.specs.Read.{place, clientIn}
+use Rattle.stream.proofs.Records.{place-more, clients-fine}
 use Rattle.stream.proofs.reader.clients_in.Statement.{statement}
 use Rattle.stream.proofs.reader.clients_in.Tie as tie
 
@@ -32,7 +32,7 @@ client-at-requires c κs =
     let pre = c .before .before .before .pre in
     let a = c .before .before .before .args in
     let l = c .before .loop in
-    let client = client-at (a .s .now) (a .at) (a .n) (pre .2) (l .i) (c .loop-test .taken) in
+    let client = clients-fine (a .s .now) (a .at) (a .n) (pre .2) (l .i) (c .loop-test .taken) in
     rw (l .inv .2) (client .whole .room)
 
 mul-clients : tie.Need-mul-clients Inv-loop μ-loop

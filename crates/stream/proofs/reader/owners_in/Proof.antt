@@ -9,7 +9,7 @@ use Rattle.records.specs.Pieces.{padded}
 use Rattle.records.proofs.Lists.{padded-none, padded-more}
 use Rattle.stream.specs.Kind.{rowsOf}
 use Rattle.stream.specs.Read.{ownerIn}
-use Rattle.stream.proofs.Records.{row-at, row-place}
+use Rattle.stream.proofs.Records.{rows-fine, place-rows}
 use Rattle.stream.proofs.reader.owners_in.Statement.{statement}
 use Rattle.stream.proofs.reader.owners_in.Tie as tie
 
@@ -40,8 +40,8 @@ shared-slice-read-owners c =
     let loop = c .before .before .before .loop in
     let a = c .before .before .before .before .before .args in
     let x = loop .x in
-    let there = row-place (a .s .now) (a .f) (a .n) (a .at) (rowsOf (a .f)) (pre .2) (x / 8) (omega arith) in
-    let row = row-at (a .s .now) (a .f) (a .n) (a .at) (rowsOf (a .f)) (pre .2) (x / 8) (omega arith) in
+    let there = place-rows (a .s .now) (a .f) (a .n) (a .at) (rowsOf (a .f)) (pre .2) (x / 8) (omega arith) in
+    let row = rows-fine (a .s .now) (a .f) (a .n) (a .at) (rowsOf (a .f)) (pre .2) (x / 8) (omega arith) in
     omega (arith, row .whole .room)
 
 array-write-owners : tie.Need-array-write-owners Inv-loop μ-loop
@@ -59,7 +59,7 @@ loop-again c =
     let pre = c .before .before .before .before .before .pre in
     let a = c .before .before .before .before .before .args in
     let l = c .before .before .before .loop in
-    let there = row-place (a .s .now) (a .f) (a .n) (a .at) (rowsOf (a .f)) (pre .2) (l .x / 8) (omega arith) in
+    let there = place-rows (a .s .now) (a .f) (a .n) (a .at) (rowsOf (a .f)) (pre .2) (l .x / 8) (omega arith) in
     let more = padded-more (ownerIn (a .s .now) (a .at)) (l .x) 64 0 (omega arith) in
     (omega arith, rw (l .inv .1, c .before .rows-length .ensures, ← there) more)
 

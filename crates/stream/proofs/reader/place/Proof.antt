@@ -4,7 +4,7 @@ use mathlib.Core.Path.{_≡_, sym, _∙_}
 use Prim.Native.Nat.{_+_, _-_, _*_, _≤_}
 use native.Mathlib.Omega.{arith}
 use borrow.Author.Needs.{needs}
-use Rattle.stream.specs.Read.{after, place}
+use Rattle.stream.specs.Read.{place}
 use Rattle.stream.proofs.Records.{place-more}
 use Rattle.stream.proofs.reader.place.Statement.{statement}
 use Rattle.stream.proofs.reader.place.Tie as tie

@@ -3,7 +3,7 @@
 -- Assumes nothing.
 use native.Mathlib.Omega.{arith}
 use borrow.Author.Needs.{needs}
-use Rattle.stream.specs.Read.{after, place, planOf}
+use Rattle.stream.specs.Read.{planOf}
 use Rattle.stream.proofs.Records.{read-fine}
 use Rattle.stream.proofs.reader.plan_at.Statement.{statement}
 use Rattle.stream.proofs.reader.plan_at.Tie as tie
@@ -26,7 +26,7 @@ after-requires c κs = search needs
 clients-in-requires : tie.Need-clients-in-requires
 clients-in-requires c κs =
     let pre = c .before .before .before .before .before .before .pre in
-    let s = read-fine _ (pre) in
+    let s = read-fine _ pre in
     (omega arith, omega (arith, s .head), rw (c .after .ensures .0, c .before .wide2 .ensures .0) (s .rest .clients))
 
 place-requires : tie.Need-place-requires
@@ -44,9 +44,9 @@ owners-in-requires c κs =
     let pre = c .before .before .before .before .before .before .before .before .pre in
     let wide = c .before .before .before .before .before .wide in
     let wide2 = c .before .before .before .wide2 in
-    let after′ = c .before .before .after in
-    let s = read-fine _ (pre) in
-    let at = rw (after′ .ensures .0, wide2 .ensures .0) at (c .place .ensures .0) in
+    let after = c .before .before .after in
+    let s = read-fine _ pre in
+    let at = rw (after .ensures .0, wide2 .ensures .0) at (c .place .ensures .0) in
     (omega (arith, s .head), omega (arith, s .head), rw (at, wide .ensures .0, wide2 .ensures .0) (s .rest .rows))
 
 returns : tie.Need-returns
@@ -54,10 +54,10 @@ unfolding planOf
 returns c =
     let wide = c .before .before .before .before .before .before .wide in
     let wide2 = c .before .before .before .before .wide2 in
-    let after′ = c .before .before .before .after in
+    let after = c .before .before .before .after in
     let clients-in = c .before .before .clients-in in
     let rows = c .before .place .ensures .0 in
-    let at = after′ .ensures .0 in
+    let at = after .ensures .0 in
     let f = wide .ensures .0 in
     let n = wide2 .ensures .0 in
     rw (c .owners-in .ensures, clients-in .ensures, rows, at, f, n)

@@ -10,7 +10,6 @@ use Rattle.records.specs.Put.{Put}
 use Rattle.records.proofs.Lists.{within-many}
 use Rattle.records.proofs.Puts.{none, then-piece, put-length}
 use Rattle.plan.specs.Plan.{clientOf}
-use Rattle.stream.specs.Read.{place}
 use Rattle.stream.specs.Write.{clientRecord}
 use Rattle.stream.specs.Trip.{Words}
 use Rattle.stream.proofs.Lengths.{length-client}

@@ -9,7 +9,6 @@ use Rattle.records.specs.Put.{Put}
 use Rattle.records.proofs.Lists.{within-many}
 use Rattle.records.proofs.Puts.{none, then-piece, put-length}
 use Rattle.stream.specs.Kind.{rowsOf}
-use Rattle.stream.specs.Read.{place}
 use Rattle.stream.specs.Write.{rowRecord}
 use Rattle.stream.proofs.Lengths.{length-row}
 use Rattle.stream.proofs.writer.put_rows.Statement.{statement}

@@ -8,13 +8,12 @@ use Rattle.records.specs.Pieces.{firsts}
 use Rattle.records.specs.Put.{Put}
 use Rattle.records.proofs.Lists.{length-firsts}
 use Rattle.records.proofs.Puts.{none, then-one, put-length}
-use Rattle.stream.specs.Read.{place}
-use Rattle.stream.specs.Write.{slotIn}
+use Rattle.stream.specs.Write.{rowByte}
 use Rattle.stream.proofs.writer.put_slots.Statement.{statement}
 use Rattle.stream.proofs.writer.put_slots.Tie as tie
 
 abbrev Inv-loop : tie.InvT-loop
-Inv-loop out₀ at plan j to₀ t₀ out to t = (t ≤ 8) × Put out₀ at (firsts (slotIn plan j) t) out to
+Inv-loop out₀ at plan j to₀ t₀ out to t = (t ≤ 8) × Put out₀ at (firsts (rowByte plan j) t) out to
 
 abbrev μ-loop : tie.MeasureT-loop
 μ-loop out₀ at plan j to₀ t₀ out to t = 8 - t
@@ -36,7 +35,7 @@ put-byte-requires : tie.Need-put-byte-requires Inv-loop μ-loop
 put-byte-requires c κs =
     let args = c .before .before .before .before .before .args in
     let l = c .before .before .before .loop in
-    let n = length-firsts (slotIn (args .plan) (args .j)) (l .t) in
+    let n = length-firsts (rowByte (args .plan) (args .j)) (l .t) in
     omega (arith, l .inv .1 .place, put-length (l .inv .1))
 
 add-t : tie.Need-add-t Inv-loop μ-loop
@@ -46,14 +45,14 @@ loop-less : tie.Need-loop-less Inv-loop μ-loop
 loop-less c = search needs
 
 loop-again : tie.Need-loop-again Inv-loop μ-loop
-unfolding slotIn
+unfolding rowByte
 loop-again c =
     let slot-byte = c .before .before .before .slot-byte in
     let put-byte = c .before .before .put-byte in
     let a = c .before .before .before .before .before .before .before .before .args in
     let l = c .before .before .before .before .before .before .loop in
     let put = rw (slot-byte .ensures) at (put-byte .ensures) in
-    (omega arith, then-one (slotIn (a .plan) (a .j)) (l .t) (l .inv .1) put)
+    (omega arith, then-one (rowByte (a .plan) (a .j)) (l .t) (l .inv .1) put)
 
 same-length : tie.Need-same-length Inv-loop μ-loop
 same-length c = put-length (c .before .loop .inv .1)

@@ -2,10 +2,8 @@
 -- asks is part of the stream's.
 -- Assumes nothing.
 use native.Mathlib.Omega.{arith}
-use lib.ListN.{length}
 use borrow.Author.Needs.{needs}
 use Rattle.records.proofs.Puts.{then, put-length}
-use Rattle.stream.specs.Read.{place}
 use Rattle.stream.specs.Write.{streamOf}
 use Rattle.stream.proofs.Lengths.{length-parts}
 use Rattle.stream.proofs.writer.put_stream.Statement.{statement}
