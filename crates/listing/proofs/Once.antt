@@ -19,15 +19,15 @@ use Rattle.listing.specs.declared.Row.{Row}
 use Rattle.listing.specs.Listing.{rowText, homingWaiting, waitLine, IsRow, IsLine, IsClosing, IsReportOf}
 use Rattle.listing.specs.Listing.{IsWaitLine, IsHomingOf, OrRefusal, IsReport, IsHoming}
 
-made-alike : (c c′ : ℕ) (g g′ : Figures) (w w′ : Wait) (v v′ : Verdict) → c ≡ c′ → g ≡ g′ → w ≡ w′ → v ≡ v′
+row-alike : (c c′ : ℕ) (g g′ : Figures) (w w′ : Wait) (v v′ : Verdict) → c ≡ c′ → g ≡ g′ → w ≡ w′ → v ≡ v′
     → _≡_ {A = Row} (record { client = c; figures = g; wait = w; verdict = v })
     (record { client = c′; figures = g′; wait = w′; verdict = v′ })
-made-alike c c′ g g′ w w′ v v′ e f h k = rw (e, f, h, k)
+row-alike c c′ g g′ w w′ v v′ e f h k = rw (e, f, h, k)
 
 module _ (plan : Plan) where
   row-once : (c : ℕ) (a b : Row) → IsRow plan c a → IsRow plan c b → a ≡ b
   row-once c a b is is′ =
-      made-alike _ _ _ _ _ _ _ _
+      row-alike _ _ _ _ _ _ _ _
       (is .client ∙ sym (is′ .client))
       (figures-once plan c (a .figures) (b .figures) (is .figures) (is′ .figures))
       (waits-once plan c defaultWaiting (a .wait) (b .wait) (is .wait) (is′ .wait))
