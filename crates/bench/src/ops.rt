@@ -156,9 +156,9 @@ fn search(out: &mut [u8; PAGE], case: &[u8]) -> usize {
     let answer = searched.answer;
     let owners = searched.owners;
     match answer {
-        search::Answer::Found => put_numbers(out, 0, part(&owners, 0, f)),
-        search::Answer::None => put_word(out, 0, b"none"),
-        search::Answer::Refused(number) => put_refusal(out, number),
+        search::Finding::Found => put_numbers(out, 0, part(&owners, 0, f)),
+        search::Finding::None => put_word(out, 0, b"none"),
+        search::Finding::Refused(number) => put_refusal(out, number),
     }
 }
 

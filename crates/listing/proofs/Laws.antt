@@ -17,9 +17,9 @@ use Rattle.judge.specs.declared.Verdict.{Verdict}
 use Rattle.judge.specs.declared.Verdict.the-variants.{Ok, Rate, Late}
 use Rattle.judge.specs.declared.Judgement.{Judgement}
 use Rattle.judge.specs.Judge.{IsJudgement}
-use Rattle.listing.specs.declared.Row.{Row}
-use Rattle.listing.specs.Listing.{header, rowText, refusedText, closingText, homingWaiting, waitLine}
-use Rattle.listing.specs.Listing.{IsRow, IsLine, IsClosing, IsReportOf, IsWaitLine, OrRefusal}
+use Rattle.listing.specs.declared.Line.{Line}
+use Rattle.listing.specs.Listing.{header, lineText, refusedText, closingText, homingWaiting, homingLine}
+use Rattle.listing.specs.Listing.{IsLine, IsReportLine, IsClosing, IsReportOf, IsHomingLine, OrRefusal}
 
 -- ---- the last line
 
@@ -36,30 +36,31 @@ closes-refused c Late h = refl
 -- ---- what is put of a plan
 
 module _ {out now : List ℕ} {at r : ℕ} (plan : Plan) where
-  pub row-put : (i : ℕ) (row : Row) → IsRow plan (i + 1) row → Put out at (rowText row) now r
-      → Puts (IsLine plan i) out at now r
-  row-put i row is put = record { text = rowText row; is = record { row = row; is = is; text = refl }; put = put }
+  pub line-put : (i : ℕ) (line : Line) → IsLine plan (i + 1) line → Put out at (lineText line) now r
+      → Puts (IsReportLine plan i) out at now r
+  line-put i line is put =
+      record { text = lineText line; is = record { line = line; is = is; whole = refl }; put = put }
 
   pub closing-put : (found : Judgement) (line : List ℕ) → planCheck plan ≡ Fine
       → IsJudgement plan 0 (plan .n) found → line ≡ closingText (found .client) (found .verdict)
       → Put out at line now r → Puts (IsClosing plan) out at now r
   closing-put found line fine is e put =
-      record { text = line; is = record { found = found; is = (fine, is); text = e }; put = put }
+      record { text = line; is = record { found = found; is = (fine, is); whole = e }; put = put }
 
-  pub wait-put : (i : ℕ) (wait : Wait) → IsWaitFor plan (i + 1) homingWaiting wait
-      → Put out at (waitLine (i + 1) wait) now r → Puts (IsWaitLine plan i) out at now r
-  wait-put i wait is put =
-      record { text = waitLine (i + 1) wait; is = record { wait = wait; is = is; text = refl }; put = put }
+  pub homing-line-put : (i : ℕ) (wait : Wait) → IsWaitFor plan (i + 1) homingWaiting wait
+      → Put out at (homingLine (i + 1) wait) now r → Puts (IsHomingLine plan i) out at now r
+  homing-line-put i wait is put =
+      record { text = homingLine (i + 1) wait; is = record { wait = wait; is = is; whole = refl }; put = put }
 
   pub report-put : {o₁ o₂ : List ℕ} {a₁ a₂ : ℕ} → Put out at header o₁ a₁
-      → Puts (Lines (IsLine plan) (plan .n)) o₁ a₁ o₂ a₂ → Puts (IsClosing plan) o₂ a₂ now r
+      → Puts (Lines (IsReportLine plan) (plan .n)) o₁ a₁ o₂ a₂ → Puts (IsClosing plan) o₂ a₂ now r
       → Puts (IsReportOf plan) out at now r
-  report-put first rows closing =
+  report-put first lines closing =
       record {
-        text = header ++ rows .text ++ closing .text;
+        text = header ++ lines .text ++ closing .text;
         is =
-            record { rows = rows .text; closing = closing .text; each = rows .is; last = closing .is; whole = refl };
-        put = then (then first (rows .put)) (closing .put);
+            record { lines = lines .text; closing = closing .text; each = lines .is; last = closing .is; whole = refl };
+        put = then (then first (lines .put)) (closing .put);
       }
 
 -- ---- of a reading r of s: one line where it is refused, else what is put of its plan

@@ -20,7 +20,7 @@ use Rattle.judge.specs.declared.Verdicts.the-variants as verdicts
 use Rattle.judge.specs.declared.Judgement.{Judgement}
 use Rattle.judge.specs.declared.Judged.the-variants as judged
 use Rattle.judge.specs.Judge.{IsJudged, IsVerdictOf}
-use Rattle.listing.specs.declared.Row.{Row}
+use Rattle.listing.specs.declared.Line.{Line}
 
 -- ---- fields
 
@@ -48,23 +48,23 @@ abbrev pub header : List ℕ
 header = bytes "client slots scaled wait verdict\n"
 
 -- "Fields: number, m, L, default wait, the client's verdict"
-unfoldable pub rowText : Row → List ℕ
-rowText row =
-    decimalOf (row .client) ++ bytes " " ++ figuresText (row .figures) ++ bytes " " ++ waitText (row .wait) ++ bytes " "
-    ++ verdictText (row .verdict) ++ bytes "\n"
+unfoldable pub lineText : Line → List ℕ
+lineText line =
+    decimalOf (line .client) ++ bytes " " ++ figuresText (line .figures) ++ bytes " " ++ waitText (line .wait)
+    ++ bytes " " ++ verdictText (line .verdict) ++ bytes "\n"
 
--- the row of client c: what the library answers of it
-pub record IsRow (plan : Plan) (c : ℕ) (row : Row) : Type 0 where
-  pub client : row .client ≡ c
-  pub figures : IsFigures plan c (row .figures)
-  pub wait : IsWaitFor plan c defaultWaiting (row .wait)
-  pub verdict : IsVerdictOf plan c (verdicts.Given (row .verdict))
+-- the line of client c: what the library answers of it
+pub record IsLine (plan : Plan) (c : ℕ) (line : Line) : Type 0 where
+  pub client : line .client ≡ c
+  pub figures : IsFigures plan c (line .figures)
+  pub wait : IsWaitFor plan c defaultWaiting (line .wait)
+  pub verdict : IsVerdictOf plan c (verdicts.Given (line .verdict))
 
--- the line of client i + 1
-pub record IsLine (plan : Plan) (i : ℕ) (line : List ℕ) : Type 0 where
-  pub row : Row
-  pub is : IsRow plan (i + 1) row
-  pub text : line ≡ rowText row
+-- the line of client i + 1, as text
+pub record IsReportLine (plan : Plan) (i : ℕ) (text : List ℕ) : Type 0 where
+  pub line : Line
+  pub is : IsLine plan (i + 1) line
+  pub whole : text ≡ lineText line
 
 -- "`refused` with client and verdict"
 unfoldable pub refusedText : ℕ → Verdict → List ℕ
@@ -77,18 +77,18 @@ closingText c Rate = refusedText c Rate
 closingText c Late = refusedText c Late
 
 -- where judging the plan stopped, as the last line
-pub record IsClosing (plan : Plan) (line : List ℕ) : Type 0 where
+pub record IsClosing (plan : Plan) (text : List ℕ) : Type 0 where
   pub found : Judgement
   pub is : IsJudged plan (judged.Given found)
-  pub text : line ≡ closingText (found .client) (found .verdict)
+  pub whole : text ≡ closingText (found .client) (found .verdict)
 
 -- the header, a line for each client, the last line
 pub record IsReportOf (plan : Plan) (text : List ℕ) : Type 0 where
-  pub rows : List ℕ
+  pub lines : List ℕ
   pub closing : List ℕ
-  pub each : Lines (IsLine plan) (plan .n) rows
+  pub each : Lines (IsReportLine plan) (plan .n) lines
   pub last : IsClosing plan closing
-  pub whole : text ≡ header ++ rows ++ closing
+  pub whole : text ≡ header ++ lines ++ closing
 
 -- ---- the homing listing
 
@@ -97,18 +97,18 @@ abbrev pub homingWaiting : ℕ
 homingWaiting = defaultWaiting
 
 -- "only number and default wait .. with `-` as above"
-unfoldable pub waitLine : ℕ → Wait → List ℕ
-waitLine c wait = decimalOf c ++ bytes " " ++ waitText wait ++ bytes "\n"
+unfoldable pub homingLine : ℕ → Wait → List ℕ
+homingLine c wait = decimalOf c ++ bytes " " ++ waitText wait ++ bytes "\n"
 
 -- the line of client i + 1
-pub record IsWaitLine (plan : Plan) (i : ℕ) (line : List ℕ) : Type 0 where
+pub record IsHomingLine (plan : Plan) (i : ℕ) (text : List ℕ) : Type 0 where
   pub wait : Wait
   pub is : IsWaitFor plan (i + 1) homingWaiting wait
-  pub text : line ≡ waitLine (i + 1) wait
+  pub whole : text ≡ homingLine (i + 1) wait
 
 -- "one line a client, no header"
 abbrev pub IsHomingOf : Plan → List ℕ → Type 0
-IsHomingOf plan = Lines (IsWaitLine plan) (plan .n)
+IsHomingOf plan = Lines (IsHomingLine plan) (plan .n)
 
 -- ---- of a stream
 

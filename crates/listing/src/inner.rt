@@ -1,7 +1,7 @@
 // The texts of the report and of the homing listing, of a plan that is checked, and their lines. Each is put into a
 // page at a place where there is room for the longest, a whole text at the front; the answer is the place after it. A
 // number takes up to 20 bytes, a verdict up to 4.
-use super::Row;
+use super::Line;
 use figures::Figures;
 use figures::Wait;
 use judge::Verdict;
@@ -14,10 +14,10 @@ ghost use Prim.Native.Nat.{_+_, _*_, _≤_};
 ghost use Rattle.records.specs.Put.{Put};
 ghost use Rattle.records.specs.declared.Outcome.the-variants.{Fine};
 ghost use Rattle.plan.specs.Check.{planCheck};
-ghost use Rattle.text.specs.Text.{Lines, Puts, Room, Front};
+ghost use Rattle.text.specs.Text.{Lines, Puts, Room, Lendable};
 ghost use Rattle.figures.specs.Figures.{IsWaitFor};
-ghost use Rattle.listing.specs.Listing.{figuresText, waitText, verdictText, rowText, refusedText, waitLine};
-ghost use Rattle.listing.specs.Listing.{homingWaiting, IsRow, IsLine, IsClosing, IsReportOf, IsHomingOf};
+ghost use Rattle.listing.specs.Listing.{figuresText, waitText, verdictText, lineText, refusedText, homingLine};
+ghost use Rattle.listing.specs.Listing.{homingWaiting, IsLine, IsReportLine, IsClosing, IsReportOf, IsHomingOf};
 
 // A client's m and L: two numbers and a space.
 fn put_figures(out: &mut [u8; PAGE], at: usize, figures: Figures) -> usize
@@ -61,15 +61,15 @@ fn put_verdict(out: &mut [u8; PAGE], at: usize, verdict: Verdict) -> usize
 }
 
 // A line of the report: four numbers, a verdict, four spaces and the line feed.
-fn put_row(out: &mut [u8; PAGE], at: usize, row: Row) -> usize
+fn put_line(out: &mut [u8; PAGE], at: usize, line: Line) -> usize
     requires { ⌜ Room at 89 ⌝ }
-    ensures { λ r. ⌜ Put (now (out .entry)) at (rowText row) (now (out .exit)) r ⌝ }
+    ensures { λ r. ⌜ Put (now (out .entry)) at (lineText line) (now (out .exit)) r ⌝ }
     ensures { λ r. ⌜ r ≤ at + 89 ⌝ }
 {
-    let figures = row.figures;
-    let wait = row.wait;
-    let verdict = row.verdict;
-    let at = put_decimal(out, at, row.client);
+    let figures = line.figures;
+    let wait = line.wait;
+    let verdict = line.verdict;
+    let at = put_decimal(out, at, line.client);
     let at = put(out, at, b" ");
     let at = put_figures(out, at, figures);
     let at = put(out, at, b" ");
@@ -80,15 +80,15 @@ fn put_row(out: &mut [u8; PAGE], at: usize, row: Row) -> usize
 }
 
 // What the report's line of a client shows.
-fn row_of(plan: Plan, client: usize) -> Row
+fn line_of(plan: Plan, client: usize) -> Line
     requires { ⌜ planCheck plan ≡ Fine ⌝ }
     requires { ⌜ (1 ≤ client) × (client ≤ plan .n) ⌝ }
-    ensures { λ r. ⌜ IsRow plan client r ⌝ }
+    ensures { λ r. ⌜ IsLine plan client r ⌝ }
 {
     let figures = figures::figure_of(plan, client);
     let wait = figures::default_wait(plan, client);
     let verdict = judge::inner::verdict(plan, client);
-    Row {
+    Line {
         client: client,
         figures: figures,
         wait: wait,
@@ -97,18 +97,18 @@ fn row_of(plan: Plan, client: usize) -> Row
 }
 
 // The report's lines, one for each client, at most eight.
-fn put_rows(out: &mut [u8; PAGE], at: usize, plan: Plan) -> usize
+fn put_lines(out: &mut [u8; PAGE], at: usize, plan: Plan) -> usize
     requires { ⌜ planCheck plan ≡ Fine ⌝ }
     requires { ⌜ Room at (8 * 89) ⌝ }
-    ensures { λ r. ⌜ Puts (Lines (IsLine plan) (plan .n)) (now (out .entry)) at (now (out .exit)) r ⌝ }
+    ensures { λ r. ⌜ Puts (Lines (IsReportLine plan) (plan .n)) (now (out .entry)) at (now (out .exit)) r ⌝ }
     ensures { λ r. ⌜ r ≤ at + 8 * 89 ⌝ }
 {
     let n = plan.n;
     let mut next = at;
     let mut i = 0;
     while i < n {
-        let row = row_of(plan, i + 1);
-        next = put_row(out, next, row);
+        let line = line_of(plan, i + 1);
+        next = put_line(out, next, line);
         i += 1;
     }
     next
@@ -118,7 +118,7 @@ fn put_rows(out: &mut [u8; PAGE], at: usize, plan: Plan) -> usize
 fn put_refused(out: &mut [u8; PAGE], at: usize, client: usize, verdict: Verdict) -> usize
     requires { ⌜ Room at 34 ⌝ }
     ensures { λ r. ⌜ Put (now (out .entry)) at (refusedText client verdict) (now (out .exit)) r ⌝ }
-    ensures { λ r. ⌜ Front r (now (out .exit)) ⌝ }
+    ensures { λ r. ⌜ Lendable r (now (out .exit)) ⌝ }
 {
     let at = put(out, at, b"refused ");
     let at = put_decimal(out, at, client);
@@ -132,7 +132,7 @@ fn put_closing(out: &mut [u8; PAGE], at: usize, plan: Plan) -> usize
     requires { ⌜ planCheck plan ≡ Fine ⌝ }
     requires { ⌜ Room at 34 ⌝ }
     ensures { λ r. ⌜ Puts (IsClosing plan) (now (out .entry)) at (now (out .exit)) r ⌝ }
-    ensures { λ r. ⌜ Front r (now (out .exit)) ⌝ }
+    ensures { λ r. ⌜ Lendable r (now (out .exit)) ⌝ }
 {
     let found = judge::inner::first_failure(plan, 0, plan.n);
     let verdict = found.verdict;
@@ -146,10 +146,10 @@ fn put_closing(out: &mut [u8; PAGE], at: usize, plan: Plan) -> usize
 pub fn put_report(out: &mut [u8; PAGE], plan: Plan) -> usize
     requires { ⌜ planCheck plan ≡ Fine ⌝ }
     ensures { λ r. ⌜ Puts (IsReportOf plan) (now (out .entry)) 0 (now (out .exit)) r ⌝ }
-    ensures { λ r. ⌜ Front r (now (out .exit)) ⌝ }
+    ensures { λ r. ⌜ Lendable r (now (out .exit)) ⌝ }
 {
     let at = put(out, 0, b"client slots scaled wait verdict\n");
-    let at = put_rows(out, at, plan);
+    let at = put_lines(out, at, plan);
     put_closing(out, at, plan)
 }
 
@@ -161,11 +161,11 @@ fn homing_wait(plan: Plan, client: usize) -> Wait
 }
 
 // A line of the homing listing: two numbers, a space and the line feed.
-fn put_wait_line(out: &mut [u8; PAGE], at: usize, client: usize, wait: Wait) -> usize
+fn put_homing_line(out: &mut [u8; PAGE], at: usize, client: usize, wait: Wait) -> usize
     requires { ⌜ Room at 42 ⌝ }
-    ensures { λ r. ⌜ Put (now (out .entry)) at (waitLine client wait) (now (out .exit)) r ⌝ }
+    ensures { λ r. ⌜ Put (now (out .entry)) at (homingLine client wait) (now (out .exit)) r ⌝ }
     ensures { λ r. ⌜ r ≤ at + 42 ⌝ }
-    ensures { λ r. ⌜ Front r (now (out .exit)) ⌝ }
+    ensures { λ r. ⌜ Lendable r (now (out .exit)) ⌝ }
 {
     let at = put_decimal(out, at, client);
     let at = put(out, at, b" ");
@@ -177,14 +177,14 @@ fn put_wait_line(out: &mut [u8; PAGE], at: usize, client: usize, wait: Wait) -> 
 pub fn put_homing(out: &mut [u8; PAGE], plan: Plan) -> usize
     requires { ⌜ planCheck plan ≡ Fine ⌝ }
     ensures { λ r. ⌜ Puts (IsHomingOf plan) (now (out .entry)) 0 (now (out .exit)) r ⌝ }
-    ensures { λ r. ⌜ Front r (now (out .exit)) ⌝ }
+    ensures { λ r. ⌜ Lendable r (now (out .exit)) ⌝ }
 {
     let n = plan.n;
     let mut next = 0;
     let mut i = 0;
     while i < n {
         let wait = homing_wait(plan, i + 1);
-        next = put_wait_line(out, next, i + 1, wait);
+        next = put_homing_line(out, next, i + 1, wait);
         i += 1;
     }
     next

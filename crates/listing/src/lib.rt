@@ -7,11 +7,11 @@ use figures::Wait;
 use judge::Verdict;
 use records::Outcome;
 use text::PAGE;
-ghost use Rattle.text.specs.Text.{Puts, Front};
+ghost use Rattle.text.specs.Text.{Puts, Lendable};
 ghost use Rattle.listing.specs.Listing.{IsReport, IsHoming};
 
 // What a line of the report shows.
-pub struct Row {
+pub struct Line {
     pub client: usize,
     pub figures: Figures,
     pub wait: Wait,
@@ -21,7 +21,7 @@ pub struct Row {
 // The report: a header, a line for each client, and whether the plan is accepted.
 pub fn report(s: &[u8], out: &mut [u8; PAGE]) -> usize
     ensures { λ r. ⌜ Puts (IsReport (now (s .entry))) (now (out .entry)) 0 (now (out .exit)) r ⌝ }
-    ensures { λ r. ⌜ Front r (now (out .exit)) ⌝ }
+    ensures { λ r. ⌜ Lendable r (now (out .exit)) ⌝ }
 {
     let reading = stream::read(s);
     let outcome = reading.outcome;
@@ -35,7 +35,7 @@ pub fn report(s: &[u8], out: &mut [u8; PAGE]) -> usize
 // The homing listing: each client's number and default wait.
 pub fn homing(s: &[u8], out: &mut [u8; PAGE]) -> usize
     ensures { λ r. ⌜ Puts (IsHoming (now (s .entry))) (now (out .entry)) 0 (now (out .exit)) r ⌝ }
-    ensures { λ r. ⌜ Front r (now (out .exit)) ⌝ }
+    ensures { λ r. ⌜ Lendable r (now (out .exit)) ⌝ }
 {
     let reading = stream::read(s);
     let outcome = reading.outcome;

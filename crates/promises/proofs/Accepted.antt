@@ -39,8 +39,8 @@ use Rattle.judge.proofs.Laws.{rate-true, rate-pass, rate-owns, late-start, late
 use Rattle.judge.proofs.Laws.{scaled-by-in-time}
 use Rattle.judge.proofs.Once.{judgement-one, judged-once}
 use Rattle.explore.specs.Best.{Table, owned, LexLe, NoTable}
-use Rattle.search.specs.declared.Answer.{Answer}
-use Rattle.search.specs.declared.Answer.the-variants as answer
+use Rattle.search.specs.declared.Finding.{Finding}
+use Rattle.search.specs.declared.Finding.the-variants as finding
 use Rattle.search.specs.declared.Searched.{Searched}
 use Rattle.search.specs.Search.{idlePlan, searchCheck, withTable, AcceptedIn, SearchedAs, IsSearched}
 use Rattle.search.proofs.Questions.{Searchable, search-fine, search-pass}
@@ -239,22 +239,22 @@ module _ (f n : ℕ) (clients : List Client) (r : Searched) (is : IsSearched (id
   pub foundPlan : Plan
   foundPlan = withTable (idlePlan f n clients) (r .owners)
 
-  is-found : r .answer ≡ answer.Found → SearchedAs (idlePlan f n clients) answer.Found (r .owners)
+  is-found : r .answer ≡ finding.Found → SearchedAs (idlePlan f n clients) finding.Found (r .owners)
   is-found e = by (r .answer) is e
     where
-      by : (a : Answer) → SearchedAs (idlePlan f n clients) a (r .owners) → a ≡ answer.Found
-          → SearchedAs (idlePlan f n clients) answer.Found (r .owners)
+      by : (a : Finding) → SearchedAs (idlePlan f n clients) a (r .owners) → a ≡ finding.Found
+          → SearchedAs (idlePlan f n clients) finding.Found (r .owners)
       by a h e = rw e at h
 
   -- "The search .. gives an accepted table": a plan that `judge` accepts
-  pub found-accepted : r .answer ≡ answer.Found → Accepted foundPlan
+  pub found-accepted : r .answer ≡ finding.Found → Accepted foundPlan
   unfolding foundPlan
   found-accepted e =
       let h = is-found e in
       let bounds = search-fine (idlePlan f n clients) (h .0) .bounds in
       accepted-front (idlePlan f n clients) (r .owners) (bounds .f-low) (h .1 .0 .good)
 
-  found-checked : r .answer ≡ answer.Found → Checked foundPlan
+  found-checked : r .answer ≡ finding.Found → Checked foundPlan
   unfolding foundPlan
   found-checked e =
       let h = is-found e in
@@ -266,14 +266,14 @@ module _ (f n : ℕ) (clients : List Client) (r : Searched) (is : IsSearched (id
         owned = λ x l. rw (getD-take f (r .owners) x 0 l) at (h .1 .0 .table .most x);
       }
 
-  pub found-judged : r .answer ≡ answer.Found → (j : Judged) → IsJudged foundPlan j → j ≡ judged.Given acceptance
+  pub found-judged : r .answer ≡ finding.Found → (j : Judged) → IsJudged foundPlan j → j ≡ judged.Given acceptance
   unfolding foundPlan
   found-judged e j judges =
       let fine = plan-pass foundPlan (found-checked e) in
       judged-once foundPlan j (judged.Given acceptance) judges (fine, (found-accepted e, refl, refl, refl))
 
   -- "with the fewest owned slots", and "among those the least": of all tables that `judge` accepts
-  pub found-best : r .answer ≡ answer.Found → (u : List ℕ) → Table f n u
+  pub found-best : r .answer ≡ finding.Found → (u : List ℕ) → Table f n u
       → IsJudged (withTable (idlePlan f n clients) u) (judged.Given acceptance)
       → (owned (take f (r .owners)) ≤ owned u) × (owned u ≡ owned (take f (r .owners)) → LexLe (take f (r .owners)) u)
   found-best e u table judges =
@@ -282,18 +282,18 @@ module _ (f n : ℕ) (clients : List Client) (r : Searched) (is : IsSearched (id
 
   -- "and says there is none exactly when none exists"
   pub none-exactly : Searchable (idlePlan f n clients)
-      → (r .answer ≡ answer.None) ↔ NoTable (AcceptedIn (idlePlan f n clients)) f n
+      → (r .answer ≡ finding.None) ↔ NoTable (AcceptedIn (idlePlan f n clients)) f n
   none-exactly ok = (there (r .answer) is, back (r .answer) is)
     where
-      there : (a : Answer) → SearchedAs (idlePlan f n clients) a (r .owners) → a ≡ answer.None
+      there : (a : Finding) → SearchedAs (idlePlan f n clients) a (r .owners) → a ≡ finding.None
           → NoTable (AcceptedIn (idlePlan f n clients)) f n
       there a h e =
-          let none : SearchedAs (idlePlan f n clients) answer.None (r .owners) = rw e at h in
+          let none : SearchedAs (idlePlan f n clients) finding.None (r .owners) = rw e at h in
           none .1 .0
 
-      back : (a : Answer) → SearchedAs (idlePlan f n clients) a (r .owners)
-          → NoTable (AcceptedIn (idlePlan f n clients)) f n → a ≡ answer.None
-      back answer.Found h none = absurd (none _ (h .1 .0 .table) (h .1 .0 .good))
-      back answer.None h none = refl
-      back (answer.Refused k) h none =
+      back : (a : Finding) → SearchedAs (idlePlan f n clients) a (r .owners)
+          → NoTable (AcceptedIn (idlePlan f n clients)) f n → a ≡ finding.None
+      back finding.Found h none = absurd (none _ (h .1 .0 .table) (h .1 .0 .good))
+      back finding.None h none = refl
+      back (finding.Refused k) h none =
           refused-fine (searchCheck (idlePlan f n clients)) k (h .0) (search-pass (idlePlan f n clients) ok)

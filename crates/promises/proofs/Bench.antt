@@ -42,8 +42,8 @@ use Rattle.judge.proofs.Laws.{first-at}
 use Rattle.judge.proofs.Once.{judged-once}
 use Rattle.explore.specs.Best.{owned, IsBest}
 use Rattle.explore.proofs.Order.{best-one}
-use Rattle.search.specs.declared.Answer.{Answer}
-use Rattle.search.specs.declared.Answer.the-variants as answer
+use Rattle.search.specs.declared.Finding.{Finding}
+use Rattle.search.specs.declared.Finding.the-variants as finding
 use Rattle.search.specs.Search.{searchCheck, sizeCheck, AcceptedIn, SearchedAs}
 use Rattle.search.proofs.Questions.{search-fine}
 use Rattle.arbiter.specs.Step.{ruleFor, servedBy, lessOne, advanced, positionCheck, arrivalsCheck, stepCheck, stepOf}
@@ -263,19 +263,19 @@ module _ (f n : ℕ) (client : Client) (facts : fineTest (searchCheck (searchPla
       best : IsBest (AcceptedIn searched) f n table
       best = best-tested searched (search-fine searched searched-fine .bounds .f-low) table h
 
-      by : (a : Answer) → SearchedAs searched a (r .owners) → (a ≡ answer.Found) × (take f (r .owners) ≡ table)
-      by answer.Found x = (refl, best-one (AcceptedIn searched) f n _ table (x .1 .0) best)
-      by answer.None x = absurd (x .1 .0 table (best .table) (best .good))
-      by (answer.Refused k) x = refused-fine (searchCheck searched) k (x .0) searched-fine
+      by : (a : Finding) → SearchedAs searched a (r .owners) → (a ≡ finding.Found) × (take f (r .owners) ≡ table)
+      by finding.Found x = (refl, best-one (AcceptedIn searched) f n _ table (x .1 .0) best)
+      by finding.None x = absurd (x .1 .0 table (best .table) (best .good))
+      by (finding.Refused k) x = refused-fine (searchCheck searched) k (x .0) searched-fine
 
   none-right : noneTest (searchPlan f n client) ≡ true → Right (none f n client)
   unfolding searched searchPlan
   none-right h r is = by (r .answer) is
     where
-      by : (a : Answer) → SearchedAs searched a (r .owners) → a ≡ answer.None
-      by answer.Found x = absurd (none-tested searched h _ (x .1 .0 .table) (x .1 .0 .good))
-      by answer.None x = refl
-      by (answer.Refused k) x = refused-fine (searchCheck searched) k (x .0) searched-fine
+      by : (a : Finding) → SearchedAs searched a (r .owners) → a ≡ finding.None
+      by finding.Found x = absurd (none-tested searched h _ (x .1 .0 .table) (x .1 .0 .good))
+      by finding.None x = refl
+      by (finding.Refused k) x = refused-fine (searchCheck searched) k (x .0) searched-fine
 
 right : (q : Question) → test q ≡ true → Right q
 unfolding test

@@ -23,7 +23,7 @@ use Rattle.plan.specs.Plan.{noClient, noPlan, ownOf, Same}
 use Rattle.plan.specs.Check.{planCheck}
 use Rattle.plan.proofs.Laws.{Checked, plan-fine, plan-pass, same-check}
 use Rattle.plan.proofs.Refusals.{plan-numbered, plan-unread}
-use Rattle.text.specs.Text.{bytes, refusalLine, Puts, Front}
+use Rattle.text.specs.Text.{bytes, refusalLine, Puts, Lendable}
 use Rattle.text.proofs.Laws.{puts-once}
 use Rattle.stream.specs.Read.{readCheck, planOf, planIf, readOf}
 use Rattle.stream.specs.Write.{streamOf, writeCheck, writtenBy, writtenOf, writtenNumber, writtenSize, bytesBy}
@@ -54,14 +54,14 @@ use Rattle.judge.specs.Judge.{IsJudged, judgedNumber, judgedValues, judgedVerdi
 use Rattle.judge.specs.Judge.{verdictIn}
 use Rattle.judge.proofs.Once.{judged-once, verdicts-once}
 use Rattle.judge.proofs.Same.{judged-same, verdicts-same}
-use Rattle.search.specs.declared.Answer.{Answer}
-use Rattle.search.specs.declared.Answer.the-variants as answer
+use Rattle.search.specs.declared.Finding.{Finding}
+use Rattle.search.specs.declared.Finding.the-variants as finding
 use Rattle.search.specs.declared.Searched.{Searched}
 use Rattle.search.specs.Search.{idlePlan, searchCheck, SearchedAs, IsSearched, searchedNumber}
 use Rattle.search.proofs.Questions.{Searchable, search-fine, search-pass, search-numbered}
 use Rattle.search.proofs.Once.{searched-once}
 use Rattle.search.proofs.Same.{searched-same}
-use Rattle.arbiter.specs.declared.Answer.{Answer as Answered}
+use Rattle.arbiter.specs.declared.Answer.{Answer}
 use Rattle.arbiter.specs.declared.Arbiter.{Arbiter}
 use Rattle.arbiter.specs.declared.Service.the-variants as service
 use Rattle.arbiter.specs.declared.Stepped.{Stepped}
@@ -83,7 +83,7 @@ pub once : {A : Type 0} (x r r′ : A) → r ≡ x → r′ ≡ x → r ≡ r′
 once x r r′ h h′ = h ∙ sym h′
 
 -- where a record is lent, too: `arbiter::step_in_place`
-pub step-once : (plan : Plan) (arb : Arbiter) (xs : List ℕ) (r r′ : Answered) (now now′ : Arbiter)
+pub step-once : (plan : Plan) (arb : Arbiter) (xs : List ℕ) (r r′ : Answer) (now now′ : Arbiter)
     → (r ≡ stepOf plan arb xs .answer) × (now ≡ stepOf plan arb xs .next)
     → (r′ ≡ stepOf plan arb xs .answer) × (now′ ≡ stepOf plan arb xs .next) → (r ≡ r′) × (now ≡ now′)
 step-once plan arb xs r r′ now now′ h h′ = (once _ r r′ (h .0) (h′ .0), once _ now now′ (h .1) (h′ .1))
@@ -133,7 +133,7 @@ pub homing-once : (s out : List ℕ) (r r′ : ℕ) (now now′ : List ℕ) → 
 homing-once s out r r′ now now′ = puts-once (IsHoming s) (one-homing s)
 
 -- and what such a page then holds: at its front, which the programs write, the text, and past it what stood there
-pub page-after : (out text now : List ℕ) (r : ℕ) → Put out 0 text now r → Front r now
+pub page-after : (out text now : List ℕ) (r : ℕ) → Put out 0 text now r → Lendable r now
     → (take r now ≡ text) × (drop r now ≡ drop r out)
 page-after out text now r put front =
     let size : length text ≡ r = omega (arith, put .place) in
@@ -194,11 +194,11 @@ search-number f n clients r is =
     let numbered = search-numbered refusal.tooLarge (omega arith) (idlePlan f n clients) in
     (search-number-by (idlePlan f n clients) (r .answer) (r .owners) is, numbered)
   where
-    search-number-by : (plan : Plan) (a : Answer) (owners : List ℕ) → SearchedAs plan a owners
+    search-number-by : (plan : Plan) (a : Finding) (owners : List ℕ) → SearchedAs plan a owners
         → searchedNumber a ≡ numberOf (searchCheck plan)
-    search-number-by plan answer.Found owners x = sym (ap numberOf (x .0))
-    search-number-by plan answer.None owners x = sym (ap numberOf (x .0))
-    search-number-by plan (answer.Refused k) owners x = refused-number (searchCheck plan) k (x .0)
+    search-number-by plan finding.Found owners x = sym (ap numberOf (x .0))
+    search-number-by plan finding.None owners x = sym (ap numberOf (x .0))
+    search-number-by plan (finding.Refused k) owners x = refused-number (searchCheck plan) k (x .0)
 
 pub step-number : (plan : Plan) (arb : Arbiter) (xs : List ℕ)
     → (stepNumber (stepOf plan arb xs .answer .service) ≡ numberOf (stepCheck plan (arb .position) (length xs)))
@@ -262,13 +262,13 @@ verdict-given plan c (verdicts.Refused k) ok is =
     refused-fine (askedCheck plan c) k is (asked-pass plan c (ok .0) (ok .1) (ok .2))
 
 pub search-given : (f n : ℕ) (clients : List Client) (r : Searched) → Searchable (idlePlan f n clients)
-    → IsSearched (idlePlan f n clients) r → (r .answer ≡ answer.Found) ⊎ (r .answer ≡ answer.None)
+    → IsSearched (idlePlan f n clients) r → (r .answer ≡ finding.Found) ⊎ (r .answer ≡ finding.None)
 search-given f n clients r ok is = by (r .answer) is
   where
-    by : (a : Answer) → SearchedAs (idlePlan f n clients) a (r .owners) → (a ≡ answer.Found) ⊎ (a ≡ answer.None)
-    by answer.Found h = inl refl
-    by answer.None h = inr refl
-    by (answer.Refused k) h =
+    by : (a : Finding) → SearchedAs (idlePlan f n clients) a (r .owners) → (a ≡ finding.Found) ⊎ (a ≡ finding.None)
+    by finding.Found h = inl refl
+    by finding.None h = inr refl
+    by (finding.Refused k) h =
         refused-fine (searchCheck (idlePlan f n clients)) k (h .0) (search-pass (idlePlan f n clients) ok)
 
 pub step-given : (plan : Plan) (arb : Arbiter) (xs : List ℕ) → Steps plan (arb .position) (length xs)
@@ -401,11 +401,11 @@ pub search-refused : (f n : ℕ) (clients : List Client) (r : Searched) → IsSe
     → (searchedNumber (r .answer) ≡ 0 → ⊥) → r .owners ≡ replicate 64 0
 search-refused f n clients r = by (r .answer)
   where
-    by : (a : Answer) → SearchedAs (idlePlan f n clients) a (r .owners) → (searchedNumber a ≡ 0 → ⊥)
+    by : (a : Finding) → SearchedAs (idlePlan f n clients) a (r .owners) → (searchedNumber a ≡ 0 → ⊥)
         → r .owners ≡ replicate 64 0
-    by answer.Found x h = absurd (h refl)
-    by answer.None x h = absurd (h refl)
-    by (answer.Refused k) x h = x .1
+    by finding.Found x h = absurd (h refl)
+    by finding.None x h = absurd (h refl)
+    by (finding.Refused k) x h = x .1
 
 -- "leaves .. an arbiter record unchanged"
 pub step-refused : (plan : Plan) (arb : Arbiter) (xs : List ℕ)

@@ -19,7 +19,7 @@ use Rattle.judge.specs.declared.Judged.{Judged}
 use Rattle.judge.specs.declared.Judged.the-variants as judged
 use Rattle.judge.specs.declared.Verdict.the-variants.{Late}
 use Rattle.judge.specs.Judge.{acceptance, IsJudged}
-use Rattle.search.specs.declared.Answer.the-variants as answer
+use Rattle.search.specs.declared.Finding.the-variants as finding
 use Rattle.search.specs.declared.Searched.{Searched}
 use Rattle.search.specs.Search.{idlePlan, IsSearched}
 use Rattle.arbiter.specs.declared.Arbiter.{Arbiter}
@@ -88,8 +88,8 @@ Right (late t client s j) =
     (r : Judged) → IsJudged (schedulePlan client t) r
     → r ≡ judged.Given (record { client = 1; verdict = Late; start = s; length = j })
 Right (found f n client table) =
-    (r : Searched) → IsSearched (searchPlan f n client) r → (r .answer ≡ answer.Found) × (take f (r .owners) ≡ table)
-Right (none f n client) = (r : Searched) → IsSearched (searchPlan f n client) r → r .answer ≡ answer.None
+    (r : Searched) → IsSearched (searchPlan f n client) r → (r .answer ≡ finding.Found) × (take f (r .owners) ≡ table)
+Right (none f n client) = (r : Searched) → IsSearched (searchPlan f n client) r → r .answer ≡ finding.None
 Right (steps plan arb xs goes) = (r : Stepped) → r ≡ stepOf plan arb xs → r ≡ goes
 
 -- all of a list are right

@@ -10,8 +10,8 @@ use Rattle.records.proofs.Checks.{refused-number, refused-fine}
 use Rattle.plan.specs.declared.Plan.{Plan}
 use Rattle.explore.specs.Best.{IsBest, NoTable}
 use Rattle.explore.proofs.Order.{best-one}
-use Rattle.search.specs.declared.Answer.{Answer}
-use Rattle.search.specs.declared.Answer.the-variants as answer
+use Rattle.search.specs.declared.Finding.{Finding}
+use Rattle.search.specs.declared.Finding.the-variants as finding
 use Rattle.search.specs.declared.Searched.{Searched}
 use Rattle.search.specs.Search.{searchCheck, AcceptedIn, Finds, SearchedAs, IsSearched}
 
@@ -33,22 +33,22 @@ finds-one P f n false true s t x y = absurd (not-none P f n _ (y .0) (x .0))
 finds-one P f n false false s t x y = (refl, x .1 ∙ sym (y .1))
 
 module _ (plan : Plan) where
-  answers-one : (a b : Answer) (s t : List ℕ) → SearchedAs plan a s → SearchedAs plan b t → (a ≡ b) × (s ≡ t)
-  answers-one answer.Found answer.Found s t x y =
+  answers-one : (a b : Finding) (s t : List ℕ) → SearchedAs plan a s → SearchedAs plan b t → (a ≡ b) × (s ≡ t)
+  answers-one finding.Found finding.Found s t x y =
       (refl, finds-one (AcceptedIn plan) (plan .f) (plan .n) true true s t (x .1) (y .1) .1)
-  answers-one answer.Found answer.None s t x y = absurd (not-none (AcceptedIn plan) _ _ _ (x .1 .0) (y .1 .0))
-  answers-one answer.Found (answer.Refused k) s t x y = refused-fine (searchCheck plan) k (y .0) (x .0)
-  answers-one answer.None answer.Found s t x y = absurd (not-none (AcceptedIn plan) _ _ _ (y .1 .0) (x .1 .0))
-  answers-one answer.None answer.None s t x y =
+  answers-one finding.Found finding.None s t x y = absurd (not-none (AcceptedIn plan) _ _ _ (x .1 .0) (y .1 .0))
+  answers-one finding.Found (finding.Refused k) s t x y = refused-fine (searchCheck plan) k (y .0) (x .0)
+  answers-one finding.None finding.Found s t x y = absurd (not-none (AcceptedIn plan) _ _ _ (y .1 .0) (x .1 .0))
+  answers-one finding.None finding.None s t x y =
       (refl, finds-one (AcceptedIn plan) (plan .f) (plan .n) false false s t (x .1) (y .1) .1)
-  answers-one answer.None (answer.Refused k) s t x y = refused-fine (searchCheck plan) k (y .0) (x .0)
-  answers-one (answer.Refused k) answer.Found s t x y = refused-fine (searchCheck plan) k (x .0) (y .0)
-  answers-one (answer.Refused k) answer.None s t x y = refused-fine (searchCheck plan) k (x .0) (y .0)
-  answers-one (answer.Refused j) (answer.Refused k) s t x y =
+  answers-one finding.None (finding.Refused k) s t x y = refused-fine (searchCheck plan) k (y .0) (x .0)
+  answers-one (finding.Refused k) finding.Found s t x y = refused-fine (searchCheck plan) k (x .0) (y .0)
+  answers-one (finding.Refused k) finding.None s t x y = refused-fine (searchCheck plan) k (x .0) (y .0)
+  answers-one (finding.Refused j) (finding.Refused k) s t x y =
       let number = refused-number (searchCheck plan) j (x .0) ∙ sym (refused-number (searchCheck plan) k (y .0)) in
-      (ap answer.Refused number, x .1 ∙ sym (y .1))
+      (ap finding.Refused number, x .1 ∙ sym (y .1))
 
-  searched-alike : (a b : Answer) (s t : List ℕ) → (a ≡ b) × (s ≡ t)
+  searched-alike : (a b : Finding) (s t : List ℕ) → (a ≡ b) × (s ≡ t)
       → _≡_ {A = Searched} (record { answer = a; owners = s }) (record { answer = b; owners = t })
   searched-alike a b s t e = rw (e .0, e .1)
 

@@ -14,8 +14,8 @@ use Rattle.plan.specs.declared.Plan.{Plan}
 use Rattle.plan.specs.Plan.{noClient, Same}
 use Rattle.plan.proofs.Laws.{requirements-same}
 use Rattle.judge.proofs.Same.{all-same}
-use Rattle.search.specs.declared.Answer.{Answer}
-use Rattle.search.specs.declared.Answer.the-variants as answer
+use Rattle.search.specs.declared.Finding.{Finding}
+use Rattle.search.specs.declared.Finding.the-variants as finding
 use Rattle.search.specs.Search.{idlePlan, searchCheck, sizeCheck, withTable, AcceptedIn, Finds, SearchedAs}
 use Rattle.search.proofs.Questions.{search-fine}
 use Rattle.search.proofs.Mending.{finds-same}
@@ -44,7 +44,7 @@ module _ (f n : ℕ) (cs ds : List Client) (alike : (i : ℕ) → i < n → getD
       all-same plan other same f> 0 n (omega arith)
 
 pub searched-same : (f n : ℕ) (cs ds : List Client) → ((i : ℕ) → i < n → getD cs i noClient ≡ getD ds i noClient)
-    → (a : Answer) (owners : List ℕ) → SearchedAs (idlePlan f n cs) a owners → SearchedAs (idlePlan f n ds) a owners
+    → (a : Finding) (owners : List ℕ) → SearchedAs (idlePlan f n cs) a owners → SearchedAs (idlePlan f n ds) a owners
 searched-same f n cs ds alike a owners = by a
   where
     P : List ℕ → Type 0
@@ -62,7 +62,7 @@ searched-same f n cs ds alike a owners = by a
         finds-same P Q f n (λ t table. accepted-same f n cs ds alike t f>)
         (λ t table. accepted-same f n ds cs (λ i l. sym (alike i l)) t f>) found owners
 
-    by : (a : Answer) → SearchedAs (idlePlan f n cs) a owners → SearchedAs (idlePlan f n ds) a owners
-    by answer.Found x = (sym check ∙ x .0, finds true (x .0) (x .1))
-    by answer.None x = (sym check ∙ x .0, finds false (x .0) (x .1))
-    by (answer.Refused k) x = (rw check at (x .0), x .1)
+    by : (a : Finding) → SearchedAs (idlePlan f n cs) a owners → SearchedAs (idlePlan f n ds) a owners
+    by finding.Found x = (sym check ∙ x .0, finds true (x .0) (x .1))
+    by finding.None x = (sym check ∙ x .0, finds false (x .0) (x .1))
+    by (finding.Refused k) x = (rw check at (x .0), x .1)

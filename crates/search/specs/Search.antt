@@ -14,8 +14,8 @@ use Rattle.plan.specs.declared.Plan.{Plan}
 use Rattle.plan.specs.Check.{requirementsCheck}
 use Rattle.judge.specs.Judge.{Accepted}
 use Rattle.explore.specs.Best.{IsBest, NoTable}
-use Rattle.search.specs.declared.Answer.{Answer}
-use Rattle.search.specs.declared.Answer.the-variants as answer
+use Rattle.search.specs.declared.Finding.{Finding}
+use Rattle.search.specs.declared.Finding.the-variants as finding
 use Rattle.search.specs.declared.Searched.{Searched}
 
 -- "The search takes f, n and the requirements": a plan that has them, all of its slots idle
@@ -53,19 +53,19 @@ Finds P f n true owners = IsBest P f n (take f owners) × (drop f owners ≡ rep
 Finds P f n false owners = NoTable P f n × (owners ≡ replicate 64 0)
 
 -- what the search answers
-abbrev pub SearchedAs : Plan → Answer → List ℕ → Type 0
-SearchedAs plan answer.Found owners =
+abbrev pub SearchedAs : Plan → Finding → List ℕ → Type 0
+SearchedAs plan finding.Found owners =
     (searchCheck plan ≡ Fine) × Finds (AcceptedIn plan) (plan .f) (plan .n) true owners
-SearchedAs plan answer.None owners =
+SearchedAs plan finding.None owners =
     (searchCheck plan ≡ Fine) × Finds (AcceptedIn plan) (plan .f) (plan .n) false owners
-SearchedAs plan (answer.Refused number) owners = RefusedBy (searchCheck plan) number × (owners ≡ replicate 64 0)
+SearchedAs plan (finding.Refused number) owners = RefusedBy (searchCheck plan) number × (owners ≡ replicate 64 0)
 
 -- the same of an answer with its owners
 abbrev pub IsSearched : Plan → Searched → Type 0
 IsSearched plan r = SearchedAs plan (r .answer) (r .owners)
 
 -- an answer's number: "A refusal .. returns its number"; ""None" is no refusal"
-abbrev pub searchedNumber : Answer → ℕ
-searchedNumber answer.Found = 0
-searchedNumber answer.None = 0
-searchedNumber (answer.Refused number) = number
+abbrev pub searchedNumber : Finding → ℕ
+searchedNumber finding.Found = 0
+searchedNumber finding.None = 0
+searchedNumber (finding.Refused number) = number

@@ -8,7 +8,7 @@ use records::Outcome;
 ghost use Rattle.search.specs.Search.{idlePlan, IsSearched};
 
 // A table was found, there is none, or the refusal's number.
-pub enum Answer {
+pub enum Finding {
     Found,
     None,
     Refused(u8),
@@ -16,7 +16,7 @@ pub enum Answer {
 
 // The answer, and the owners of the table found: 0 past f, and all 0 where none was.
 pub struct Searched {
-    pub answer: Answer,
+    pub answer: Finding,
     pub owners: [u8; 64],
 }
 
@@ -46,7 +46,7 @@ pub fn search(f: usize, n: usize, clients: [Client; 8]) -> Searched
     let checked = inner::check_search(plan);
     if let Outcome::Refused(number, offset) = checked {
         return Searched {
-            answer: Answer::Refused(number),
+            answer: Finding::Refused(number),
             owners: idle,
         };
     }
@@ -55,12 +55,12 @@ pub fn search(f: usize, n: usize, clients: [Client; 8]) -> Searched
     let found = mended.found;
     if found {
         return Searched {
-            answer: Answer::Found,
+            answer: Finding::Found,
             owners: owners,
         };
     }
     Searched {
-        answer: Answer::None,
+        answer: Finding::None,
         owners: idle,
     }
 }

@@ -13,7 +13,7 @@ use lib.Seq.{sets, take-suc, length-take-le}
 use Rattle.records.specs.Put.{Put}
 use Rattle.records.proofs.Checks.{below-or-not}
 use Rattle.records.proofs.Puts.{none, then}
-use Rattle.text.specs.Text.{digit, decimal, decimalOf, Lines, Puts, Front}
+use Rattle.text.specs.Text.{digit, decimal, decimalOf, Lines, Puts, Lendable}
 
 -- ---- digits
 
@@ -128,5 +128,5 @@ puts-once {out} {at = at} Is one p q =
 -- ---- at the front
 
 -- a place within the output ends a part of it that can be lent
-pub front-of : (r : ℕ) (out : List ℕ) → r ≤ length out → Front r out
-front-of r out l = (l, sym (length-take-le r out l))
+pub lendable : (r : ℕ) (out : List ℕ) → r ≤ length out → Lendable r out
+lendable r out l = (l, sym (length-take-le r out l))

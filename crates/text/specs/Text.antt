@@ -51,5 +51,5 @@ Room at k = at + k ≤ 2048
 
 -- the first r bytes of out can be lent as `&out[..r]`: what the kit asks of a program that does so. The second part
 -- follows from the first
-abbrev pub Front : ℕ → List ℕ → Type 0
-Front r out = (r ≤ length out) × (r ≡ length (take r out))
+abbrev pub Lendable : ℕ → List ℕ → Type 0
+Lendable r out = (r ≤ length out) × (r ≡ length (take r out))

@@ -3,7 +3,7 @@
 use borrow.Author.Needs.{needs}
 use Rattle.records.proofs.Puts.{then}
 use Rattle.text.specs.Text.{refusalLine}
-use Rattle.text.proofs.Laws.{front-of}
+use Rattle.text.proofs.Laws.{lendable}
 use Rattle.text.proofs.put_refusal.Statement.{statement}
 use Rattle.text.proofs.put_refusal.Tie as tie
 
@@ -38,7 +38,7 @@ returns c =
     let at-put = at-put2 .before .before .before .before .before in
     let number = then (at-put .put .ensures) (at-put2 .before .before .before .put-decimal .ensures .0) in
     let offset = then (then number (at-put2 .put2 .ensures)) (c .before .before .before .put-decimal2 .ensures .0) in
-    (then offset (c .put3 .ensures), front-of (c .put3 .result) (c .put3 .last .0) (search needs))
+    (then offset (c .put3 .ensures), lendable (c .put3 .result) (c .put3 .last .0) (search needs))
 
 pub put-refusal-spec : {M : Type 1} → statement M
 put-refusal-spec =

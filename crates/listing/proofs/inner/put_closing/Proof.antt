@@ -5,7 +5,7 @@ use mathlib.Core.Logic.{⊎-elim}
 use native.Mathlib.Omega.{arith}
 use borrow.Author.Needs.{needs}
 use Rattle.plan.proofs.Laws.{plan-fine}
-use Rattle.text.proofs.Laws.{front-of}
+use Rattle.text.proofs.Laws.{lendable}
 use Rattle.judge.specs.declared.Verdict.the-variants.{Ok}
 use Rattle.listing.proofs.Laws.{closes-ok, closes-refused, closing-put}
 use Rattle.listing.proofs.inner.put_closing.Statement.{statement}
@@ -34,7 +34,7 @@ returns c =
     let start = c .before .before .before .before .before .before in
     let e = closes-ok (found .result .client) _ (c .before .before .before .enum-told .given .1) in
     let line = closing-put (start .args .plan) (found .result) _ (start .pre .0) (found .ensures) e (c .put .ensures) in
-    (line, front-of _ _ (search needs))
+    (line, lendable _ _ (search needs))
 
 returns-2 : tie.Need-returns-2
 returns-2 c =

@@ -6,23 +6,23 @@ use Prim.Native.Nat.{_-_, _*_, _≤_}
 use native.Mathlib.Omega.{arith}
 use borrow.Author.Needs.{needs}
 use Rattle.plan.proofs.Laws.{plan-fine}
-use Rattle.text.specs.Text.{Lines, Puts, Front}
+use Rattle.text.specs.Text.{Lines, Puts, Lendable}
 use Rattle.text.proofs.Laws.{puts-none, then-line}
-use Rattle.listing.specs.Listing.{IsWaitLine}
-use Rattle.listing.proofs.Laws.{wait-put}
+use Rattle.listing.specs.Listing.{IsHomingLine}
+use Rattle.listing.proofs.Laws.{homing-line-put}
 use Rattle.listing.proofs.inner.put_homing.Statement.{statement}
 use Rattle.listing.proofs.inner.put_homing.Tie as tie
 
 abbrev Inv-loop : tie.InvT-loop
 Inv-loop out₀ plan n next₀ i₀ out next i =
-    (i ≤ n) × (next ≤ 42 * i) × Puts (Lines (IsWaitLine plan) i) out₀ 0 out next × (1 ≤ i → Front next out)
+    (i ≤ n) × (next ≤ 42 * i) × Puts (Lines (IsHomingLine plan) i) out₀ 0 out next × (1 ≤ i → Lendable next out)
 
 abbrev μ-loop : tie.MeasureT-loop
 μ-loop out₀ plan n next₀ i₀ out next i = n - i
 
 loop-holds : tie.Need-loop-holds Inv-loop μ-loop
 loop-holds c =
-    let none = puts-none (IsWaitLine (c .args .plan)) (c .args .out .now) 0 in
+    let none = puts-none (IsHomingLine (c .args .plan)) (c .args .out .now) 0 in
     (omega arith, omega arith, none, λ h. absurd (omega arith))
 
 add-homing-wait : tie.Need-add-homing-wait Inv-loop μ-loop
@@ -31,11 +31,11 @@ add-homing-wait c = search needs
 homing-wait-requires : tie.Need-homing-wait-requires Inv-loop μ-loop
 homing-wait-requires c κs = search needs
 
-add-put-wait-line : tie.Need-add-put-wait-line Inv-loop μ-loop
-add-put-wait-line c = search needs
+add-put-homing-line : tie.Need-add-put-homing-line Inv-loop μ-loop
+add-put-homing-line c = search needs
 
-put-wait-line-requires : tie.Need-put-wait-line-requires Inv-loop μ-loop
-put-wait-line-requires c κs =
+put-homing-line-requires : tie.Need-put-homing-line-requires Inv-loop μ-loop
+put-homing-line-requires c κs =
     let start = c .before .before .before .before in
     omega (arith, plan-fine (start .args .plan) (start .pre) .bounds .n-high)
 
@@ -50,9 +50,9 @@ loop-again c =
     let plan = c .before .before .before .before .before .args .plan in
     let loop = c .before .before .before .before .loop in
     let wait = c .before .before .homing-wait in
-    let put = c .put-wait-line .ensures in
-    let line = wait-put plan (loop .i) (wait .result) (wait .ensures) (put .0) in
-    (omega arith, omega arith, then-line (IsWaitLine plan) (loop .i) (loop .inv .2) line, λ h. put .1 .1)
+    let put = c .put-homing-line .ensures in
+    let line = homing-line-put plan (loop .i) (wait .result) (wait .ensures) (put .0) in
+    (omega arith, omega arith, then-line (IsHomingLine plan) (loop .i) (loop .inv .2) line, λ h. put .1 .1)
 
 returns : tie.Need-returns Inv-loop μ-loop
 returns c =
@@ -71,8 +71,8 @@ put-homing-spec =
     loop-holds
     add-homing-wait
     homing-wait-requires
-    add-put-wait-line
-    put-wait-line-requires
+    add-put-homing-line
+    put-homing-line-requires
     add-i
     loop-less
     loop-again

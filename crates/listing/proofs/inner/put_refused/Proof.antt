@@ -2,7 +2,7 @@
 -- Assumes nothing.
 use borrow.Author.Needs.{needs}
 use Rattle.records.proofs.Puts.{then}
-use Rattle.text.proofs.Laws.{front-of}
+use Rattle.text.proofs.Laws.{lendable}
 use Rattle.listing.specs.Listing.{refusedText}
 use Rattle.listing.proofs.inner.put_refused.Statement.{statement}
 use Rattle.listing.proofs.inner.put_refused.Tie as tie
@@ -39,7 +39,7 @@ returns c =
     let client = then (at-client .before .before .put .ensures) (at-client .put-decimal .ensures .0) in
     let space = then client (at-verdict .before .before .put2 .ensures) in
     let verdict = then space (at-verdict .put-verdict .ensures .0) in
-    (then verdict (c .put3 .ensures), front-of _ _ (search needs))
+    (then verdict (c .put3 .ensures), lendable _ _ (search needs))
 
 pub put-refused-spec : {M : Type 1} → statement M
 put-refused-spec =

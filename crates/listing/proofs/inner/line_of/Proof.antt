@@ -1,4 +1,4 @@
--- `listing::inner::row_of` meets its contract: figures and wait are what the entries answer, and a client of a
+-- `listing::inner::line_of` meets its contract: figures and wait are what the entries answer, and a client of a
 -- checked plan has a verdict.
 -- Assumes nothing.
 use mathlib.Core.Path.{refl}
@@ -6,8 +6,8 @@ use native.Mathlib.Omega.{arith}
 use borrow.Author.Needs.{needs}
 use Rattle.plan.proofs.Laws.{plan-fine}
 use Rattle.figures.proofs.Questions.{asked-pass}
-use Rattle.listing.proofs.inner.row_of.Statement.{statement}
-use Rattle.listing.proofs.inner.row_of.Tie as tie
+use Rattle.listing.proofs.inner.line_of.Statement.{statement}
+use Rattle.listing.proofs.inner.line_of.Tie as tie
 
 figure-of-requires : tie.Need-figure-of-requires
 figure-of-requires c κs = search needs
@@ -34,6 +34,6 @@ returns c =
       verdict = (asked, c .verdict .ensures);
     }
 
-pub row-of-spec : {M : Type 1} → statement M
-row-of-spec =
+pub line-of-spec : {M : Type 1} → statement M
+line-of-spec =
     tie.close (tie.spec figure-of-requires default-wait-requires verdict-requires returns)

@@ -1,10 +1,10 @@
--- `listing::inner::put_row` meets its contract: the fields are put one after the other, with room for each.
+-- `listing::inner::put_line` meets its contract: the fields are put one after the other, with room for each.
 -- Assumes nothing.
 use borrow.Author.Needs.{needs}
 use Rattle.records.proofs.Puts.{then}
-use Rattle.listing.specs.Listing.{rowText}
-use Rattle.listing.proofs.inner.put_row.Statement.{statement}
-use Rattle.listing.proofs.inner.put_row.Tie as tie
+use Rattle.listing.specs.Listing.{lineText}
+use Rattle.listing.proofs.inner.put_line.Statement.{statement}
+use Rattle.listing.proofs.inner.put_line.Tie as tie
 
 put-decimal-requires : tie.Need-put-decimal-requires
 put-decimal-requires c κs = search needs
@@ -43,7 +43,7 @@ put-requires-4 : tie.Need-put-requires-4
 put-requires-4 c κs = search needs
 
 returns : tie.Need-returns
-unfolding rowText
+unfolding lineText
 returns c =
     let at-verdict = c .before .before .before in
     let at-wait = at-verdict .before .before .before .before .before in
@@ -54,8 +54,8 @@ returns c =
     let wait = then (then figures (at-wait .put-wait .ensures .0)) (at-verdict .before .before .put3 .ensures) in
     (then (then wait (at-verdict .put-verdict .ensures .0)) (c .put4 .ensures), search needs)
 
-pub put-row-spec : {M : Type 1} → statement M
-put-row-spec =
+pub put-line-spec : {M : Type 1} → statement M
+put-line-spec =
     tie.close
     (tie.spec
     put-decimal-requires

@@ -1,11 +1,11 @@
--- `listing::inner::put_wait_line` meets its contract: its fields are put one after the other, with room for each.
+-- `listing::inner::put_homing_line` meets its contract: its fields are put one after the other, with room for each.
 -- Assumes nothing.
 use borrow.Author.Needs.{needs}
 use Rattle.records.proofs.Puts.{then}
-use Rattle.text.proofs.Laws.{front-of}
-use Rattle.listing.specs.Listing.{waitLine}
-use Rattle.listing.proofs.inner.put_wait_line.Statement.{statement}
-use Rattle.listing.proofs.inner.put_wait_line.Tie as tie
+use Rattle.text.proofs.Laws.{lendable}
+use Rattle.listing.specs.Listing.{homingLine}
+use Rattle.listing.proofs.inner.put_homing_line.Statement.{statement}
+use Rattle.listing.proofs.inner.put_homing_line.Tie as tie
 
 put-decimal-requires : tie.Need-put-decimal-requires
 put-decimal-requires c κs = search needs
@@ -26,15 +26,15 @@ put-requires-2 : tie.Need-put-requires-2
 put-requires-2 c κs = search needs
 
 returns : tie.Need-returns
-unfolding waitLine
+unfolding homingLine
 returns c =
     let at-wait = c .before .before .before in
     let at-client = at-wait .before .before .before .before .before in
     let client = then (at-client .put-decimal .ensures .0) (at-wait .before .before .put .ensures) in
-    (then (then client (at-wait .put-wait .ensures .0)) (c .put2 .ensures), (search needs, front-of _ _ (search needs)))
+    (then (then client (at-wait .put-wait .ensures .0)) (c .put2 .ensures), (search needs, lendable _ _ (search needs)))
 
-pub put-wait-line-spec : {M : Type 1} → statement M
-put-wait-line-spec =
+pub put-homing-line-spec : {M : Type 1} → statement M
+put-homing-line-spec =
     tie.close
     (tie.spec
     put-decimal-requires
