@@ -143,6 +143,7 @@ pub fn rows() -> Vec<Row> {
         let stream = [&WHOLE[..*place], bytes].concat();
         rows.extend(refused(what, &stream, *number, *offset));
     }
+    rows.extend(each_byte_damaged());
     rows.extend(passes());
     rows.extend(lengths());
     rows
@@ -173,6 +174,18 @@ fn whole_and_cut() -> Vec<Row> {
         let what = format!("1: cut after {length} bytes");
         let reply = format!("refusal 1 at {record}");
         rows.push(row(&what, read(&WHOLE[..length]), &reply));
+    }
+    rows
+}
+
+/// Each byte of the stream changed to the next below and above it, to 0 and to 255.
+fn each_byte_damaged() -> Vec<Row> {
+    let mut rows = Vec::new();
+    for (place, old) in WHOLE.iter().enumerate() {
+        for byte in [old.wrapping_sub(1), old.wrapping_add(1), 0, 255] {
+            let what = format!("byte {place} changed from {old} to {byte}");
+            rows.push(unstated(&what, read(&changed(place, &[byte]))));
+        }
     }
     rows
 }
