@@ -19,8 +19,8 @@ use Rattle.listing.specs.declared.Line.{Line}
 use Rattle.listing.specs.Listing.{lineText, homingWaiting, homingLine, IsLine, IsReportLine, IsClosing}
 use Rattle.listing.specs.Listing.{IsReportOf, IsHomingLine, IsHomingOf, OrRefusal, IsReport, IsHoming}
 
-line-alike : (c c′ : ℕ) (g g′ : Figures) (w w′ : Wait) (v v′ : Verdict) → c ≡ c′ → g ≡ g′ → w ≡ w′ → v ≡ v′
-    → _≡_ {A = Line} (record { client = c; figures = g; wait = w; verdict = v })
+line-alike : (c c′ : ℕ) (g g′ : Figures) (w w′ : Wait) (v v′ : Verdict) → c ≡ c′ → g ≡ g′
+    → w ≡ w′ → v ≡ v′ → _≡_ {A = Line} (record { client = c; figures = g; wait = w; verdict = v })
     (record { client = c′; figures = g′; wait = w′; verdict = v′ })
 line-alike c c′ g g′ w w′ v v′ e f h k = rw (e, f, h, k)
 

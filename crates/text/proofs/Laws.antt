@@ -85,7 +85,8 @@ twenty-most x l = digits-most 19 x (lt-trans l below)
 
 -- one turn of the loop that puts a text
 pub then-byte : {o₀ o₁ o₂ : List ℕ} {a₀ a₁ a₂ : ℕ} (text : List ℕ) (i : ℕ) → i < length text
-    → Put o₀ a₀ (take i text) o₁ a₁ → Put o₁ a₁ (getD text i 0 ∷ []) o₂ a₂ → Put o₀ a₀ (take (i + 1) text) o₂ a₂
+    → Put o₀ a₀ (take i text) o₁ a₁ → Put o₁ a₁ (getD text i 0 ∷ []) o₂ a₂
+    → Put o₀ a₀ (take (i + 1) text) o₂ a₂
 then-byte text i l p q = rw (add-one, take-suc text i 0 l) (then p q)
 
 -- ---- line by line
@@ -95,8 +96,8 @@ pub puts-none : (P : ℕ → List ℕ → Type 0) (out : List ℕ) (at : ℕ) �
 unfolding Lines
 puts-none P out at = record { text = []; is = refl; put = none out at }
 
-pub then-line : {o₀ o₁ o₂ : List ℕ} {a₀ a₁ a₂ : ℕ} (P : ℕ → List ℕ → Type 0) (n : ℕ) → Puts (Lines P n) o₀ a₀ o₁ a₁
-    → Puts (P n) o₁ a₁ o₂ a₂ → Puts (Lines P (n + 1)) o₀ a₀ o₂ a₂
+pub then-line : {o₀ o₁ o₂ : List ℕ} {a₀ a₁ a₂ : ℕ} (P : ℕ → List ℕ → Type 0) (n : ℕ)
+    → Puts (Lines P n) o₀ a₀ o₁ a₁ → Puts (P n) o₁ a₁ o₂ a₂ → Puts (Lines P (n + 1)) o₀ a₀ o₂ a₂
 unfolding Lines
 then-line P n p q =
     record {
@@ -106,8 +107,8 @@ then-line P n p q =
     }
 
 -- where each line is one text, so are all
-pub lines-once : (P : ℕ → List ℕ → Type 0) → ((i : ℕ) (a b : List ℕ) → P i a → P i b → a ≡ b) → (n : ℕ) (a b : List ℕ)
-    → Lines P n a → Lines P n b → a ≡ b
+pub lines-once : (P : ℕ → List ℕ → Type 0) → ((i : ℕ) (a b : List ℕ) → P i a → P i b → a ≡ b) → (n : ℕ)
+    (a b : List ℕ) → Lines P n a → Lines P n b → a ≡ b
 unfolding Lines
 lines-once P one zero a b e h = e ∙ sym h
 lines-once P one (suc n) a b (front, line, (lines, last, e)) (front′, line′, (lines′, last′, e′)) =

@@ -1,10 +1,11 @@
--- Text as bytes: quoted words, numbers, and the one line of a refused read (document 01, Programs).
+-- Text as bytes: quoted words, numbers, the one line of a refused read (document 01, Programs), texts of several lines,
+-- and what it is to put a text into a lent page.
+use mathlib.Core.Path.{_≡_}
 use mathlib.Core.List.{List, [], _∷_, _++_}
 use Prim.Native.Nat.{ℕ, zero, suc, _+_, _/_, _%_, _≤_}
 use Prim.Native.Char.{code}
 use Prim.Native.String.{String}
 use Prim.Native.String as str
-use mathlib.Core.Path.{_≡_}
 use lib.Dec.{ltb}
 use lib.ListN.{length, take}
 use Rattle.records.specs.First.{pick}
@@ -24,7 +25,7 @@ unfoldable pub decimal : ℕ → ℕ → List ℕ
 decimal zero x = []
 decimal (suc k) x = pick (ltb x 10) (digit x ∷ []) (decimal k (x / 10) ++ (digit (x % 10) ∷ []))
 
--- x in decimal, "without sign or leading zeros"; it has at most x + 1 digits
+-- x in decimal, with no sign and no leading zero; it has at most x + 1 digits
 unfoldable pub decimalOf : ℕ → List ℕ
 decimalOf x = decimal (suc x) x
 
