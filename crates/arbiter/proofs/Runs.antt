@@ -14,12 +14,13 @@ use Rattle.frame.specs.Frame.{nextOf}
 use Rattle.frame.specs.Queue.{serve, after, left, total, taken, turned, served, pending, servedIn}
 use Rattle.frame.proofs.Within.{next-mod}
 use Rattle.records.proofs.Lists.{get-onto, onto-reaches, get-padded}
+use Rattle.records.specs.declared.Outcome.the-variants.{Fine}
 use Rattle.plan.specs.declared.Plan.{Plan}
 use Rattle.plan.specs.Plan.{ownerOf, isClient, ownIn, ownOf}
 use Rattle.plan.proofs.Laws.{plan-fine}
 use Rattle.arbiter.specs.declared.Arbiter.{Arbiter}
 use Rattle.arbiter.specs.Step.{ruleOf, countOf, arrivedOf, queueAt, turnedAt, joined, servedNow, advanced, stepOf}
-use Rattle.arbiter.specs.Step.{clientServed}
+use Rattle.arbiter.specs.Step.{clientServed, stepCheck}
 use Rattle.arbiter.specs.Run.{recordAfter, totalOf, Runs, servedOf, turnedOf, takenOf, pendingOf}
 use Rattle.arbiter.specs.Run.{servedInOf}
 use Rattle.arbiter.proofs.Questions.{Steps, step-pass}
@@ -42,6 +43,12 @@ module _ (plan : Plan) (arb : Arbiter) (xs : List ℕ) (ok : Steps plan (arb .po
 
   pub next-below : stepOf plan arb xs .next .position < plan .f
   next-below = rw next-position (mod-lt (suc (arb .position)) (ok .checked .bounds .f-low))
+
+  -- a caller that steps on with as many arrivals is not refused
+  pub passes-again : stepCheck plan (advanced plan arb xs .next .position) (length xs) ≡ Fine
+  passes-again =
+      step-pass plan (advanced plan arb xs .next .position) (length xs)
+      (record { checked = ok .checked; below = rw advances-so at next-below; many = ok .many })
 
   module _ (i : ℕ) (i< : i < plan .n) where
     joined-at : getD (joined plan arb xs) i 0 ≡ queueAt plan arb xs i

@@ -1,0 +1,26 @@
+-- `capi::gwelathur_read` meets its contract: the outcome is that of the reading.
+-- Assumes nothing.
+use mathlib.Core.Path.{ap, _∙_}
+use borrow.Author.Needs.{needs}
+use Rattle.records.specs.First.{numberOf, offsetOf}
+use Rattle.stream.specs.declared.Reading.{Reading}
+use Rattle.capi.proofs.gwelathur_read.Statement.{statement}
+use Rattle.capi.proofs.gwelathur_read.Tie as tie
+
+read-requires : tie.Need-read-requires
+read-requires c κs = search needs
+
+tell-outcome-requires : tie.Need-tell-outcome-requires
+tell-outcome-requires c κs = search needs
+
+returns : tie.Need-returns
+returns c =
+    let tell = c .tell-outcome .ensures in
+    let read = c .before .before .read .ensures .0 in
+    record {
+      returned = tell .0 ∙ ap (λ (x : Reading). numberOf (x .outcome)) read;
+      stored = tell .1 ∙ ap (λ (x : Reading). offsetOf (x .outcome)) read;
+    }
+
+pub gwelathur-read-spec : {M : Type 1} → statement M
+gwelathur-read-spec = tie.close (tie.spec read-requires tell-outcome-requires returns)

@@ -1,0 +1,36 @@
+-- `capi::gwelathur_verdict` meets its contract: what the library answers of the plan that was read is told.
+-- Assumes nothing.
+use mathlib.Core.Path.{refl}
+use borrow.Author.Needs.{needs}
+use Rattle.capi.proofs.Laws.{told, listed}
+use Rattle.capi.proofs.gwelathur_verdict.Statement.{statement}
+use Rattle.capi.proofs.gwelathur_verdict.Tie as tie
+
+read-requires : tie.Need-read-requires
+read-requires c κs = search needs
+
+verdict-of-requires : tie.Need-verdict-of-requires
+verdict-of-requires c κs = search needs
+
+tell-verdict-requires : tie.Need-tell-verdict-requires
+tell-verdict-requires c κs = search needs
+
+first-number-requires : tie.Need-first-number-requires
+first-number-requires c κs = search needs
+
+returns : tie.Need-returns
+returns c =
+    let asked = c .before .before .before .verdict-of in
+    let read = c .before .before .before .before .before .read in
+    let tell = c .before .tell-verdict .ensures in
+    told (asked .result) (read .ensures .0) (asked .ensures) (tell .0) (c .first-number .ensures) (listed (tell .1) refl)
+
+pub gwelathur-verdict-spec : {M : Type 1} → statement M
+gwelathur-verdict-spec =
+    tie.close
+    (tie.spec
+    read-requires
+    verdict-of-requires
+    tell-verdict-requires
+    first-number-requires
+    returns)

@@ -1,0 +1,31 @@
+-- `capi::gwelathur_wait` meets its contract: what the library answers of the plan that was read is told.
+-- Assumes nothing.
+use mathlib.Core.Path.{refl}
+use borrow.Author.Needs.{needs}
+use Rattle.capi.proofs.Laws.{told, listed}
+use Rattle.capi.proofs.gwelathur_wait.Statement.{statement}
+use Rattle.capi.proofs.gwelathur_wait.Tie as tie
+
+read-requires : tie.Need-read-requires
+read-requires c κs = search needs
+
+wait-for-requires : tie.Need-wait-for-requires
+wait-for-requires c κs = search needs
+
+tell-wait-requires : tie.Need-tell-wait-requires
+tell-wait-requires c κs = search needs
+
+first-number-requires : tie.Need-first-number-requires
+first-number-requires c κs = search needs
+
+returns : tie.Need-returns
+returns c =
+    let asked = c .before .before .before .wait-for in
+    let read = c .before .before .before .before .before .read in
+    let tell = c .before .tell-wait .ensures in
+    told (asked .result) (read .ensures .0) (asked .ensures) (tell .0) (c .first-number .ensures) (listed (tell .1) refl)
+
+pub gwelathur-wait-spec : {M : Type 1} → statement M
+gwelathur-wait-spec =
+    tie.close
+    (tie.spec read-requires wait-for-requires tell-wait-requires first-number-requires returns)

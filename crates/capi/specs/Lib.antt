@@ -1,0 +1,2 @@
+-- The definitions of `capi`: a file rests only on those before it.
+pub mod Calls

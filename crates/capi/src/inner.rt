@@ -1,0 +1,279 @@
+// Answers stored in lent numbers and bytes; the number returned is the refusal's, 0 where nothing is refused.
+use super::LONGEST;
+use super::RECORD;
+use arbiter::Arbiter;
+use arbiter::Service;
+use arbiter::Stepped;
+use figures::Figures;
+use figures::Wait;
+use judge::Judged;
+use judge::Verdict;
+use judge::Verdicts;
+use plan::Plan;
+use records::Outcome;
+use records::wide;
+use search::Finding;
+use search::Searched;
+use stream::Written;
+use stream::writer::put_stream;
+ghost use mathlib.Core.Path.{_≡_};
+ghost use mathlib.Core.List.{_∷_};
+ghost use Prim.Native.Nat.{_<_};
+ghost use Rattle.records.specs.First.{numberOf, offsetOf};
+ghost use Rattle.records.specs.Put.{Put};
+ghost use Rattle.stream.specs.Write.{writtenNumber, writtenSize};
+ghost use Rattle.figures.specs.Figures.{figuresNumber, figureIn, waitNumber, waitIn};
+ghost use Rattle.judge.specs.Judge.{judgedNumber, verdictNumber};
+ghost use Rattle.search.specs.Search.{searchedNumber};
+ghost use Rattle.arbiter.specs.Step.{stepNumber, clientServed};
+ghost use Rattle.capi.specs.Calls.{firstNumber, verdictCode, judgementIn, codeIn, IsSearchedFor, foundStream};
+ghost use Rattle.capi.specs.Calls.{recordIn, recordBytes, answerBytes};
+
+// Reading's refusal, else an answer's own number.
+pub fn first_number(outcome: Outcome, number: usize) -> usize
+    ensures { λ r. ⌜ r ≡ firstNumber outcome number ⌝ }
+{
+    match outcome {
+        Outcome::Fine => number,
+        Outcome::Refused(refused, _) => wide(refused),
+    }
+}
+
+// Reading's refusal.
+pub fn tell_outcome(outcome: Outcome, offset: &mut usize) -> usize
+    ensures { λ r. ⌜ (r ≡ numberOf outcome) × (now (offset .exit) ≡ offsetOf outcome) ⌝ }
+{
+    match outcome {
+        Outcome::Fine => {
+            *offset = 0;
+            0
+        },
+        Outcome::Refused(number, place) => {
+            *offset = place;
+            wide(number)
+        },
+    }
+}
+
+// Figures.
+pub fn tell_figures(answer: Figures, slots: &mut usize, scaled: &mut usize) -> usize
+    ensures { λ r. ⌜ (r ≡ figuresNumber answer) × (now (slots .exit) ≡ figureIn answer .slots)
+        × (now (scaled .exit) ≡ figureIn answer .scaled) ⌝ }
+{
+    match answer {
+        Figures::Given(figure) => {
+            *slots = figure.slots;
+            *scaled = figure.scaled;
+            0
+        },
+        Figures::Refused(number) => {
+            *slots = 0;
+            *scaled = 0;
+            wide(number)
+        },
+    }
+}
+
+// A wait.
+pub fn tell_wait(answer: Wait, wait: &mut usize) -> usize
+    ensures { λ r. ⌜ (r ≡ waitNumber answer) × (now (wait .exit) ≡ waitIn answer) ⌝ }
+{
+    match answer {
+        Wait::Given(slots) => {
+            *wait = slots;
+            0
+        },
+        Wait::Refused(number) => {
+            *wait = 0;
+            wide(number)
+        },
+    }
+}
+
+// A verdict's number.
+fn code_of(verdict: Verdict) -> usize
+    ensures { λ r. ⌜ r ≡ verdictCode verdict ⌝ }
+{
+    match verdict {
+        Verdict::Ok => 0,
+        Verdict::Rate => 1,
+        Verdict::Late => 2,
+    }
+}
+
+// Where judging stopped.
+pub fn tell_judged(
+    answer: Judged,
+    client: &mut usize,
+    verdict: &mut usize,
+    start: &mut usize,
+    length: &mut usize,
+) -> usize
+    ensures { λ r. ⌜ (r ≡ judgedNumber answer) × (now (client .exit) ≡ judgementIn answer .client)
+        × (now (verdict .exit) ≡ verdictCode (judgementIn answer .verdict))
+        × (now (start .exit) ≡ judgementIn answer .start) × (now (length .exit) ≡ judgementIn answer .length) ⌝ }
+{
+    match answer {
+        Judged::Given(found) => {
+            let found_verdict = found.verdict;
+            *client = found.client;
+            *verdict = code_of(found_verdict);
+            *start = found.start;
+            *length = found.length;
+            0
+        },
+        Judged::Refused(number) => {
+            *client = 0;
+            *verdict = 0;
+            *start = 0;
+            *length = 0;
+            wide(number)
+        },
+    }
+}
+
+// A verdict.
+pub fn tell_verdict(answer: Verdicts, verdict: &mut usize) -> usize
+    ensures { λ r. ⌜ (r ≡ verdictNumber answer) × (now (verdict .exit) ≡ codeIn answer) ⌝ }
+{
+    match answer {
+        Verdicts::Given(given) => {
+            *verdict = code_of(given);
+            0
+        },
+        Verdicts::Refused(number) => {
+            *verdict = 0;
+            wide(number)
+        },
+    }
+}
+
+// A length written.
+pub fn tell_written(answer: Written, length: &mut usize) -> usize
+    ensures { λ r. ⌜ (r ≡ writtenNumber answer) × (now (length .exit) ≡ writtenSize answer) ⌝ }
+{
+    match answer {
+        Written::Bytes(size) => {
+            *length = size;
+            0
+        },
+        Written::Refused(number) => {
+            *length = 0;
+            wide(number)
+        },
+    }
+}
+
+// A search: where a table is found, the stream of the plan that has it.
+pub fn tell_searched(
+    plan: Plan,
+    searched: Searched,
+    out: &mut [u8; LONGEST],
+    length: &mut usize,
+) -> usize
+    requires { ⌜ IsSearchedFor plan searched ⌝ }
+    ensures { λ r. ⌜ (r ≡ searchedNumber (searched .answer))
+        × Put (now (out .entry)) 0 (foundStream plan (searched .answer) (searched .owners))
+        (now (out .exit)) (now (length .exit)) ⌝ }
+{
+    let answer = searched.answer;
+    let owners = searched.owners;
+    let clients = plan.clients;
+    match answer {
+        Finding::Found => {
+            let found = Plan {
+                f: plan.f,
+                n: plan.n,
+                clients: clients,
+                owners: owners,
+            };
+            *length = put_stream(out, found);
+            0
+        },
+        Finding::None => {
+            *length = 0;
+            0
+        },
+        Finding::Refused(number) => {
+            *length = 0;
+            wide(number)
+        },
+    }
+}
+
+// The record that nine bytes hold.
+pub fn record_in(bytes: [u8; RECORD]) -> Arbiter
+    ensures { λ r. ⌜ (r ≡ recordIn bytes) × (r .position < 256) ⌝ }
+{
+    Arbiter {
+        position: wide(bytes[0]),
+        pending: [
+            bytes[1],
+            bytes[2],
+            bytes[3],
+            bytes[4],
+            bytes[5],
+            bytes[6],
+            bytes[7],
+            bytes[8],
+        ],
+    }
+}
+
+// A number and eight more, in nine bytes.
+fn put_nine(out: &mut [u8; RECORD], first: u8, rest: [u8; 8])
+    ensures { λ r. ⌜ now (out .exit) ≡ first ∷ rest ⌝ }
+{
+    *out = [
+        first,
+        rest[0],
+        rest[1],
+        rest[2],
+        rest[3],
+        rest[4],
+        rest[5],
+        rest[6],
+        rest[7],
+    ];
+}
+
+// The client that a step names, 0 in a refusal, in a byte.
+fn served_of(service: Service) -> u8
+    requires { ⌜ clientServed service < 256 ⌝ }
+    ensures { λ r. ⌜ r ≡ clientServed service ⌝ }
+{
+    match service {
+        Service::Given(client) => client as u8,
+        Service::Refused(_) => 0,
+    }
+}
+
+// The refusal's number of a step.
+fn number_of(service: Service) -> usize
+    ensures { λ r. ⌜ r ≡ stepNumber service ⌝ }
+{
+    match service {
+        Service::Given(_) => 0,
+        Service::Refused(number) => wide(number),
+    }
+}
+
+// A step: the record after it, and its answer.
+pub fn tell_stepped(
+    stepped: Stepped,
+    arbiter: &mut [u8; RECORD],
+    answer: &mut [u8; RECORD],
+) -> usize
+    requires { ⌜ (stepped .next .position < 256) × (clientServed (stepped .answer .service) < 256) ⌝ }
+    ensures { λ r. ⌜ (r ≡ stepNumber (stepped .answer .service))
+        × (now (arbiter .exit) ≡ recordBytes (stepped .next)) × (now (answer .exit) ≡ answerBytes (stepped .answer)) ⌝ }
+{
+    let next = stepped.next;
+    let pending = next.pending;
+    let said = stepped.answer;
+    let service = said.service;
+    let turned = said.turned;
+    put_nine(arbiter, next.position as u8, pending);
+    put_nine(answer, served_of(service), turned);
+    number_of(service)
+}
