@@ -1,0 +1,2 @@
+// The size type.
+typedef __SIZE_TYPE__ size_t;
