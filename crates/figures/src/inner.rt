@@ -1,5 +1,8 @@
 // The checks of a question about a client, and the figures of a plan that is checked: f is 1 to 64.
 use super::Figure;
+use super::Figures;
+use super::MOST_WAITING;
+use super::Wait;
 use frame::inner::next;
 use plan::Plan;
 use records::Outcome;
@@ -13,7 +16,7 @@ ghost use Rattle.frame.specs.Frame.{slotsOf, IsScaled, IsWait};
 ghost use Rattle.frame.specs.Largest.{lackFrom};
 ghost use Rattle.plan.specs.Plan.{isClient, ownOf};
 ghost use Rattle.figures.specs.Check.{askedCheck, mostWaiting};
-ghost use Rattle.figures.specs.Figures.{IsFigure};
+ghost use Rattle.figures.specs.Figures.{IsFigure, IsFigures, IsWaitFor};
 
 // The plan's checks, then 13.
 pub fn check_asked(plan: Plan, client: usize) -> Outcome
@@ -122,4 +125,21 @@ pub fn wait_of(f: usize, figure: Figure, waiting: usize) -> usize
     let m = figure.slots;
     let due = figure.scaled + waiting * f;
     (due + (m - 1)) / m
+}
+
+// The wait of a client for this many requests, from its figures: their refusal, then 15.
+pub fn wait_from(plan: Plan, client: usize, figures: Figures, waiting: usize) -> Wait
+    requires { ⌜ IsFigures plan client figures ⌝ }
+    ensures { λ r. ⌜ IsWaitFor plan client waiting r ⌝ }
+{
+    match figures {
+        Figures::Refused(number) => Wait::Refused(number),
+        Figures::Given(figure) => {
+            let asked = check_range(waiting, MOST_WAITING, refusal::WAITING);
+            if let Outcome::Refused(number, offset) = asked {
+                return Wait::Refused(number);
+            }
+            Wait::Given(wait_of(plan.f, figure, waiting))
+        }
+    }
 }

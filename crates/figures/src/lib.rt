@@ -4,7 +4,6 @@ pub mod inner; // inner.rt
 
 use plan::Plan;
 use records::Outcome;
-use records::check_range;
 use records::refusal;
 ghost use Rattle.plan.specs.Plan.{defaultWaiting};
 ghost use Rattle.figures.specs.Figures.{IsFigures, IsWaitFor};
@@ -50,16 +49,7 @@ pub fn wait_for(plan: Plan, client: usize, waiting: usize) -> Wait
     ensures { λ r. ⌜ IsWaitFor plan client waiting r ⌝ }
 {
     let figures = figure_of(plan, client);
-    match figures {
-        Figures::Refused(number) => Wait::Refused(number),
-        Figures::Given(figure) => {
-            let asked = check_range(waiting, MOST_WAITING, refusal::WAITING);
-            if let Outcome::Refused(number, offset) = asked {
-                return Wait::Refused(number);
-            }
-            Wait::Given(inner::wait_of(plan.f, figure, waiting))
-        }
-    }
+    inner::wait_from(plan, client, figures, waiting)
 }
 
 // The wait of a client, asked without a number.

@@ -5,6 +5,7 @@
 -- Assumes nothing.
 use mathlib.Core.Path.{_≡_, refl, sym, ap, _∙_, subst}
 use mathlib.Core.Bool.{Bool, true, false}
+use mathlib.Core.Logic.{_⊎_, inl, inr}
 use Prim.Native.Nat.{ℕ, zero, suc, _+_, _*_, _/_, _%_, _≤_, _<_}
 use native.Mathlib.Nat.{mod-add-div', mod-lt, suc-mul, zero-mul, mul-pos, mul-le-mul-right, le-dest}
 use native.Mathlib.Decide.{ℕ-discrete, decLt}
@@ -14,7 +15,7 @@ use Rattle.frame.specs.Frame.{slotsOf, within, Frame, IsScaled}
 use Rattle.frame.specs.Service.{Guaranteed}
 use Rattle.frame.proofs.Within.{within-add, within-frame, within-later, within-mod}
 use Rattle.frame.proofs.Service.{guaranteed-by}
-use Rattle.records.proofs.Checks.{false-true}
+use Rattle.records.proofs.Checks.{false-true, below-or-not}
 use Rattle.plan.specs.declared.Client.{Client}
 use Rattle.plan.specs.declared.Plan.{Plan}
 use Rattle.plan.specs.Plan.{clientOf, ownOf}
@@ -183,3 +184,43 @@ verdict-by plan i c e Rate k s j h =
 verdict-by plan i c e Late k s j h =
     let here : h .place ≡ i = omega (arith, h .low, h .high) in
     (s, j, rw e (rw here at (h .fails)))
+
+-- ---- one group after the other
+
+all-both : (plan : Plan) (from mid to : ℕ) → AllOk plan from mid → AllOk plan mid to → AllOk plan from to
+all-both plan from mid to all rest = record { each = λ i low high. by i low high (below-or-not i mid) }
+  where
+    by : (i : ℕ) → from ≤ i → i < to → (i < mid) ⊎ (mid ≤ i) → ClientOk plan i
+    by i low high (inl l) = all .each i low l
+    by i low high (inr l) = rest .each i l high
+
+module _ (plan : Plan) (from mid to : ℕ) (c : ℕ) (P : ℕ → Type 0) where
+  first-on : from ≤ mid → AllOk plan from mid → First plan mid to c P → First plan from to c P
+  first-on low all first =
+      record {
+        place = first .place;
+        client = first .client;
+        low = omega (arith, first .low);
+        high = first .high;
+        before = all-both plan from mid (first .place) all (first .before);
+        fails = first .fails;
+      }
+
+  -- a client that fails in the first group is the first of both
+  pub first-stops : mid ≤ to → First plan from mid c P → First plan from to c P
+  first-stops high first =
+      record {
+        place = first .place;
+        client = first .client;
+        low = first .low;
+        high = omega (arith, first .high);
+        before = first .before;
+        fails = first .fails;
+      }
+
+-- where all of the first group are ok, judging stops where it does in the second
+pub judged-on : (plan : Plan) (from mid to : ℕ) → from ≤ mid → AllOk plan from mid → (v : Verdict) (c s j : ℕ)
+    → JudgedAs plan mid to v c s j → JudgedAs plan from to v c s j
+judged-on plan from mid to low all Ok c s j h = (all-both plan from mid to all (h .0), h .1, h .2, h .3)
+judged-on plan from mid to low all Rate c s j h = (first-on plan from mid to c _ low all (h .0), h .1, h .2)
+judged-on plan from mid to low all Late c s j h = first-on plan from mid to c _ low all h

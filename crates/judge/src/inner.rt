@@ -7,7 +7,8 @@ use frame::inner::next;
 use plan::Client;
 use plan::Plan;
 ghost use mathlib.Core.Path.{_≡_};
-ghost use Prim.Native.Nat.{_-_, _*_, _≤_};
+ghost use Prim.Native.Nat.{ℕ, _-_, _*_, _≤_};
+ghost use Rattle.plan.specs.declared.Plan.{Plan};
 ghost use Rattle.plan.specs.Plan.{clientOf, ownOf};
 ghost use Rattle.judge.specs.Rules.{enough, covers, IsVerdict};
 ghost use Rattle.judge.specs.Judge.{IsJudgement};
@@ -82,6 +83,19 @@ pub fn first_failure(plan: Plan, from: usize, to: usize) -> Judgement
         }
     }
     found
+}
+
+// Where judging clients group by group stops: in the first group, else in the second.
+pub fn first_of(first: Judgement, second: Judgement) -> Judgement
+    ensures { λ r. ⌜ ((plan : Plan) (from mid to : ℕ) → from ≤ mid → mid ≤ to → IsJudgement plan from mid first
+        → IsJudgement plan mid to second → IsJudgement plan from to r) ⌝ }
+{
+    let verdict = first.verdict;
+    match verdict {
+        Verdict::Ok => second,
+        Verdict::Rate => first,
+        Verdict::Late => first,
+    }
 }
 
 // The verdict of one client.

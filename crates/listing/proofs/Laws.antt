@@ -2,24 +2,38 @@
 -- Assumes nothing.
 use mathlib.Core.Path.{_≡_, refl}
 use mathlib.Core.List.{List, _++_}
-use Prim.Native.Nat.{ℕ, _+_}
+use Prim.Native.Nat.{ℕ, _+_, _-_, _<_}
+use native.Mathlib.Omega.{arith}
 use Rattle.records.specs.Put.{Put}
 use Rattle.records.specs.declared.Outcome.the-variants.{Fine, Refused}
 use Rattle.records.proofs.Puts.{then}
 use Rattle.plan.specs.declared.Plan.{Plan}
 use Rattle.plan.specs.Check.{planCheck}
+use Rattle.plan.proofs.Laws.{plan-fine}
 use Rattle.text.specs.Text.{bytes, refusalLine, Lines, Puts}
 use Rattle.stream.specs.declared.Reading.{Reading}
 use Rattle.stream.specs.Read.{readOf}
 use Rattle.figures.specs.declared.Wait.{Wait}
 use Rattle.figures.specs.Figures.{IsWaitFor}
+use Rattle.figures.proofs.Questions.{asked-pass}
 use Rattle.judge.specs.declared.Verdict.{Verdict}
 use Rattle.judge.specs.declared.Verdict.the-variants.{Ok, Rate, Late}
 use Rattle.judge.specs.declared.Judgement.{Judgement}
-use Rattle.judge.specs.Judge.{IsJudgement}
+use Rattle.judge.specs.declared.Verdicts.the-variants as verdicts
+use Rattle.judge.specs.Judge.{IsJudgement, IsVerdictOf}
+use Rattle.judge.proofs.Laws.{verdict-by}
 use Rattle.listing.specs.declared.Line.{Line}
 use Rattle.listing.specs.Listing.{header, lineText, refusedText, closingText, homingWaiting, homingLine}
 use Rattle.listing.specs.Listing.{IsLine, IsReportLine, IsClosing, IsReportOf, IsHomingLine, OrRefusal}
+
+-- ---- a client judged by itself
+
+pub judged-verdict : (plan : Plan) (i : ℕ) (found : Judgement) → planCheck plan ≡ Fine → i < plan .n
+    → IsJudgement plan i (i + 1) found → IsVerdictOf plan (i + 1) (verdicts.Given (found .verdict))
+judged-verdict plan i found fine i< is =
+    let e : i + 1 - 1 ≡ i = omega arith in
+    let verdict = verdict-by plan i (i + 1) refl (found .verdict) (found .client) (found .start) (found .length) is in
+    (asked-pass plan (i + 1) (plan-fine plan fine) (omega arith) (omega arith), rw e verdict)
 
 -- ---- the last line
 
@@ -41,11 +55,14 @@ module _ {out now : List ℕ} {at r : ℕ} (plan : Plan) where
   line-put i line is put =
       record { text = lineText line; is = record { line = line; is = is; whole = refl }; put = put }
 
-  pub closing-put : (found : Judgement) (line : List ℕ) → planCheck plan ≡ Fine
-      → IsJudgement plan 0 (plan .n) found → line ≡ closingText (found .client) (found .verdict)
-      → Put out at line now r → Puts (IsClosing plan) out at now r
-  closing-put found line fine is e put =
-      record { text = line; is = record { found = found; is = (fine, is); whole = e }; put = put }
+  pub closing-put : (found : Judgement) → planCheck plan ≡ Fine → IsJudgement plan 0 (plan .n) found
+      → Put out at (closingText (found .client) (found .verdict)) now r → Puts (IsClosing plan) out at now r
+  closing-put found fine is put =
+      record {
+        text = closingText (found .client) (found .verdict);
+        is = record { found = found; is = (fine, is); whole = refl };
+        put = put;
+      }
 
   pub homing-line-put : (i : ℕ) (wait : Wait) → IsWaitFor plan (i + 1) homingWaiting wait
       → Put out at (homingLine (i + 1) wait) now r → Puts (IsHomingLine plan i) out at now r

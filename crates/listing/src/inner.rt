@@ -2,9 +2,14 @@
 // page at a place where there is room for the longest, a whole text at the front; the answer is the place after it. A
 // number takes up to 20 bytes, a verdict up to 4.
 use super::Line;
+use super::Listed;
 use figures::Figures;
 use figures::Wait;
+use figures::inner::wait_from;
+use judge::Judgement;
 use judge::Verdict;
+use judge::inner::first_failure;
+use judge::inner::first_of;
 use plan::Plan;
 use text::PAGE;
 use text::inner::put;
@@ -16,8 +21,10 @@ ghost use Rattle.records.specs.declared.Outcome.the-variants.{Fine};
 ghost use Rattle.plan.specs.Check.{planCheck};
 ghost use Rattle.text.specs.Text.{Lines, Puts, Room, Lendable};
 ghost use Rattle.figures.specs.Figures.{IsWaitFor};
-ghost use Rattle.listing.specs.Listing.{figuresText, waitText, verdictText, lineText, refusedText, homingLine};
-ghost use Rattle.listing.specs.Listing.{homingWaiting, IsLine, IsReportLine, IsClosing, IsReportOf, IsHomingOf};
+ghost use Rattle.judge.specs.declared.Verdicts.the-variants.{Given};
+ghost use Rattle.judge.specs.Judge.{IsJudgement, IsVerdictOf};
+ghost use Rattle.listing.specs.Listing.{figuresText, waitText, verdictText, lineText, refusedText, closingText};
+ghost use Rattle.listing.specs.Listing.{homingLine, homingWaiting, IsLine, IsReportLine, IsReportOf, IsHomingOf};
 
 // A client's m and L: two numbers and a space.
 fn put_figures(out: &mut [u8; PAGE], at: usize, figures: Figures) -> usize
@@ -79,15 +86,13 @@ fn put_line(out: &mut [u8; PAGE], at: usize, line: Line) -> usize
     put(out, at, b"\n")
 }
 
-// What the report's line of a client shows.
-fn line_of(plan: Plan, client: usize) -> Line
-    requires { ⌜ planCheck plan ≡ Fine ⌝ }
-    requires { ⌜ (1 ≤ client) × (client ≤ plan .n) ⌝ }
+// What the report's line of a client with this verdict shows.
+fn line_of(plan: Plan, client: usize, verdict: Verdict) -> Line
+    requires { ⌜ IsVerdictOf plan client (Given verdict) ⌝ }
     ensures { λ r. ⌜ IsLine plan client r ⌝ }
 {
     let figures = figures::figure_of(plan, client);
-    let wait = figures::default_wait(plan, client);
-    let verdict = judge::inner::verdict(plan, client);
+    let wait = wait_from(plan, client, figures, Plan::DEFAULT_WAITING);
     Line {
         client: client,
         figures: figures,
@@ -96,22 +101,30 @@ fn line_of(plan: Plan, client: usize) -> Line
     }
 }
 
-// The report's lines, one for each client, at most eight.
-fn put_lines(out: &mut [u8; PAGE], at: usize, plan: Plan) -> usize
+// The report's lines, one for each client, at most eight. Each client is judged once, for its line and for the last.
+fn put_lines(out: &mut [u8; PAGE], at: usize, plan: Plan) -> Listed
     requires { ⌜ planCheck plan ≡ Fine ⌝ }
     requires { ⌜ Room at (8 * 89) ⌝ }
-    ensures { λ r. ⌜ Puts (Lines (IsReportLine plan) (plan .n)) (now (out .entry)) at (now (out .exit)) r ⌝ }
-    ensures { λ r. ⌜ r ≤ at + 8 * 89 ⌝ }
+    ensures { λ r. ⌜ Puts (Lines (IsReportLine plan) (plan .n)) (now (out .entry)) at (now (out .exit)) (r .next) ⌝ }
+    ensures { λ r. ⌜ r .next ≤ at + 8 * 89 ⌝ }
+    ensures { λ r. ⌜ IsJudgement plan 0 (plan .n) (r .found) ⌝ }
 {
     let n = plan.n;
     let mut next = at;
+    let mut found = first_failure(plan, 0, 0);
     let mut i = 0;
     while i < n {
-        let line = line_of(plan, i + 1);
+        let judged = first_failure(plan, i, i + 1);
+        let verdict = judged.verdict;
+        let line = line_of(plan, i + 1, verdict);
         next = put_line(out, next, line);
+        found = first_of(found, judged);
         i += 1;
     }
-    next
+    Listed {
+        next: next,
+        found: found,
+    }
 }
 
 // A last line that refuses: `refused`, the client's number and its verdict, two spaces and the line feed.
@@ -127,14 +140,12 @@ fn put_refused(out: &mut [u8; PAGE], at: usize, client: usize, verdict: Verdict)
     put(out, at, b"\n")
 }
 
-// The report's last line.
-fn put_closing(out: &mut [u8; PAGE], at: usize, plan: Plan) -> usize
-    requires { ⌜ planCheck plan ≡ Fine ⌝ }
+// The report's last line, from where judging stopped.
+fn put_closing(out: &mut [u8; PAGE], at: usize, found: Judgement) -> usize
     requires { ⌜ Room at 34 ⌝ }
-    ensures { λ r. ⌜ Puts (IsClosing plan) (now (out .entry)) at (now (out .exit)) r ⌝ }
+    ensures { λ r. ⌜ Put (now (out .entry)) at (closingText (found .client) (found .verdict)) (now (out .exit)) r ⌝ }
     ensures { λ r. ⌜ Lendable r (now (out .exit)) ⌝ }
 {
-    let found = judge::inner::first_failure(plan, 0, plan.n);
     let verdict = found.verdict;
     match verdict {
         Verdict::Ok => put(out, at, b"accepted\n"),
@@ -149,8 +160,9 @@ pub fn put_report(out: &mut [u8; PAGE], plan: Plan) -> usize
     ensures { λ r. ⌜ Lendable r (now (out .exit)) ⌝ }
 {
     let at = put(out, 0, b"client slots scaled wait verdict\n");
-    let at = put_lines(out, at, plan);
-    put_closing(out, at, plan)
+    let listed = put_lines(out, at, plan);
+    let found = listed.found;
+    put_closing(out, listed.next, found)
 }
 
 // The wait that the homing listing shows of a client.

@@ -4,6 +4,7 @@ pub mod inner; // inner.rt
 
 use figures::Figures;
 use figures::Wait;
+use judge::Judgement;
 use judge::Verdict;
 use records::Outcome;
 use text::PAGE;
@@ -16,6 +17,12 @@ pub struct Line {
     pub figures: Figures,
     pub wait: Wait,
     pub verdict: Verdict,
+}
+
+// The lines put of a report: the place after them, and where judging their clients stopped.
+pub struct Listed {
+    pub next: usize,
+    pub found: Judgement,
 }
 
 // The report: a header, a line for each client, and whether the plan is accepted.

@@ -1,7 +1,7 @@
 -- `listing::inner::put_report` meets its contract: the header, the lines and the last line are put, with room for each.
 -- Assumes nothing.
 use borrow.Author.Needs.{needs}
-use Rattle.listing.proofs.Laws.{report-put}
+use Rattle.listing.proofs.Laws.{closing-put, report-put}
 use Rattle.listing.proofs.inner.put_report.Statement.{statement}
 use Rattle.listing.proofs.inner.put_report.Tie as tie
 
@@ -19,11 +19,14 @@ put-closing-requires c κs = search needs
 
 returns : tie.Need-returns
 returns c =
-    let at-lines = c .before .before in
+    let at-lines = c .before .before .before in
     let at-header = at-lines .before .before in
-    let plan = at-header .before .before .before .args .plan in
-    let closing = c .put-closing .ensures in
-    (report-put plan (at-header .put .ensures) (at-lines .put-lines .ensures .0) (closing .0), closing .1)
+    let start = at-header .before .before .before in
+    let plan = start .args .plan in
+    let lines = at-lines .put-lines in
+    let put = c .put-closing .ensures in
+    let closing = closing-put plan (lines .result .found) (start .pre) (lines .ensures .1 .1) (put .0) in
+    (report-put plan (at-header .put .ensures) (lines .ensures .0) closing, put .1)
 
 pub put-report-spec : {M : Type 1} → statement M
 put-report-spec =

@@ -1,18 +1,15 @@
--- `figures::wait_for` meets its contract: a refused figure is a refused wait; where the figure is given, 15 decides, or
--- the wait is that of the figure.
+-- `figures::inner::wait_from` meets its contract: a refused figure is a refused wait; where the figure is given, 15
+-- decides, or the wait is that of the figure.
 -- Assumes nothing.
 use mathlib.Core.Path.{sym, _∙_}
 use borrow.Author.Needs.{needs}
 use Rattle.records.specs.Refusal as refusal
 use Rattle.records.proofs.Checks.{range-fine}
-use Rattle.figures.proofs.Questions.{figure-fine}
 use Rattle.figures.specs.Check.{mostWaiting}
+use Rattle.figures.proofs.Questions.{figure-fine}
 use Rattle.figures.proofs.Answers.{given-fine, figure-small, waits-refused, waits-given, waits-stopped}
-use Rattle.figures.proofs.wait_for.Statement.{statement}
-use Rattle.figures.proofs.wait_for.Tie as tie
-
-figure-of-requires : tie.Need-figure-of-requires
-figure-of-requires c κs = search needs
+use Rattle.figures.proofs.inner.wait_from.Statement.{statement}
+use Rattle.figures.proofs.inner.wait_from.Tie as tie
 
 enum-known-figures : tie.Need-enum-known-figures
 enum-known-figures c = search needs
@@ -30,10 +27,9 @@ returns : tie.Need-returns
 returns c =
     let range = c .before .before .before .check-range in
     let given = c .before .before .before .before .before .figures2 in
-    let figures = c .before .before .before .before .before .before .before .figure-of in
-    let args = c .before .before .before .before .before .before .before .before .args in
-    let is = rw (given .given .1) at (figures .ensures) in
-    let fine = given-fine (args .plan) (args .client) _ is in
+    let start = c .before .before .before .before .before .before .before in
+    let args = start .args in
+    let fine = given-fine (args .plan) (args .client) _ (rw (given .given .1) at (start .pre)) in
     let refused = sym (c .before .asked .given .1) ∙ range .ensures in
     waits-refused (args .plan) (args .client) (args .waiting) _ _ fine refused
 
@@ -44,9 +40,9 @@ wait-of-requires : tie.Need-wait-of-requires
 wait-of-requires c κs =
     let range = c .before .before .check-range in
     let given = c .before .before .before .before .figures2 in
-    let figures = c .before .before .before .before .before .before .figure-of in
-    let args = c .before .before .before .before .before .before .before .args in
-    let is = rw (given .given .1) at (figures .ensures) in
+    let start = c .before .before .before .before .before .before in
+    let args = start .args in
+    let is = rw (given .given .1) at (start .pre) in
     let fine = given-fine (args .plan) (args .client) _ is in
     let asked = figure-fine (args .plan) (args .client) fine in
     let small = figure-small (args .plan) (args .client) _ asked (is .figure fine) in
@@ -55,27 +51,25 @@ wait-of-requires c κs =
 
 returns-2 : tie.Need-returns-2
 returns-2 c =
-    let figures = c .before .before .before .figure-of in
-    let args = c .before .before .before .before .args in
-    let refused = rw (c .before .figures .given .1) at (figures .ensures) in
-    waits-stopped (args .plan) (args .client) (args .waiting) _ refused
+    let start = c .before .before .before in
+    let args = start .args in
+    waits-stopped (args .plan) (args .client) (args .waiting) _ (rw (c .before .figures .given .1) at (start .pre))
 
 returns-3 : tie.Need-returns-3
 returns-3 c =
     let range = c .before .before .before .check-range in
     let given = c .before .before .before .before .before .figures2 in
-    let figures = c .before .before .before .before .before .before .before .figure-of in
-    let args = c .before .before .before .before .before .before .before .before .args in
-    let is = rw (given .given .1) at (figures .ensures) in
+    let start = c .before .before .before .before .before .before .before in
+    let args = start .args in
+    let is = rw (given .given .1) at (start .pre) in
     let fine = given-fine (args .plan) (args .client) _ is in
     let k = sym (range .ensures) ∙ c .before .enum-told .given .1 in
     waits-given (args .plan) (args .client) (args .waiting) _ _ fine k (is .figure fine) (c .wait-of .ensures)
 
-pub wait-for-spec : {M : Type 1} → statement M
-wait-for-spec =
+pub wait-from-spec : {M : Type 1} → statement M
+wait-from-spec =
     tie.close
     (tie.spec
-    figure-of-requires
     enum-known-figures
     enum-known-figures-2
     check-range-requires
