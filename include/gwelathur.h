@@ -1,8 +1,9 @@
 /*
  * Gwelathur for C callers: one backplane link that up to eight drives share by time slots.
  *
- * A plan is handed in as the bytes of its plan file, `plan` and `size`. Every function takes any bytes and any numbers.
- * It returns 0, or the number of the first refusal that applies; those of reading the plan come first:
+ * A plan is handed in as the bytes of its plan file, `plan` and `size`. Every function takes any bytes and any
+ * numbers. All but the two that write text return 0, or the number of the first refusal that applies; those of reading
+ * the plan come first:
  *
  *      1  the file ends where a kind byte is due, or inside a body     10  an owner exceeds n
  *      2  the kind byte is reserved                                    11  a place past f is not 255
@@ -14,11 +15,11 @@
  *      8  p is 0, q is 0 or p > q                                      17  the arbiter's position is not below f
  *      9  b is 0                                                       18  the arrivals list does not have n entries
  *
- * After a refusal every lent number is 0, a lent output is untouched and an arbiter's record is unchanged.
+ * After a refusal every lent number is 0, a lent output is untouched, and an arbiter's record is unchanged.
  *
- * What a caller must see to: no pointer is null, not even one whose size is 0; the memory behind a pointer is as long as
- * its size or its array says; and what is lent to be written to overlaps nothing else that is handed in. Nothing is kept
- * between calls, and nothing is allocated.
+ * What a caller must see to: no pointer is null, not even one whose size is 0; the memory behind a pointer is as long
+ * as the number after it (size, room, count) or its array says; and what is lent to be written to overlaps nothing else
+ * that is handed in. Nothing is kept between calls, and nothing is allocated.
  */
 #ifndef GWELATHUR_H
 #define GWELATHUR_H
@@ -38,7 +39,10 @@
 /* What judging says of a client. */
 enum { GWELATHUR_OK = 0, GWELATHUR_RATE = 1, GWELATHUR_LATE = 2 };
 
-/* Reads and checks a plan. Refuses 1 to 11. *offset: where the refused record begins in the file, else 0. */
+/*
+ * Reads and checks a plan. Refuses 1 to 11. *offset: where the refused record begins in the file; where a kind byte is
+ * missing, size; where bytes follow the end, the first of them; 0 where nothing is refused.
+ */
 size_t gwelathur_read(const uint8_t *plan, size_t size, size_t *offset);
 
 /* A client's figures. Refuses 1 to 11, 13, 14. *slots: m, its slots in the frame; *scaled: L, its latency times m. */
@@ -55,18 +59,22 @@ size_t gwelathur_default_wait(const uint8_t *plan, size_t size, size_t client, s
 
 /*
  * Judges a plan. Refuses 1 to 11. *client: 0 where the plan is accepted, else the first client that is not ok;
- * *verdict: its verdict; *start, *length: if it is late, the first stretch of slots that shows it, else 0 and 0.
+ * *verdict: its verdict, GWELATHUR_OK where the plan is accepted; *start, *length: if it is late, the first stretch of
+ * slots that shows it, else 0 and 0.
  */
 size_t gwelathur_judge(const uint8_t *plan, size_t size, size_t *client, size_t *verdict, size_t *start,
                        size_t *length);
 
-/* A client's verdict. Refuses 1 to 11, 13. *verdict: GWELATHUR_OK, GWELATHUR_RATE or GWELATHUR_LATE. */
+/*
+ * A client's verdict. Refuses 1 to 11, 13. *verdict: GWELATHUR_OK, GWELATHUR_RATE or GWELATHUR_LATE; a client without
+ * slots lacks rate.
+ */
 size_t gwelathur_verdict(const uint8_t *plan, size_t size, size_t client, size_t *verdict);
 
 /*
- * Searches for the best table with the plan's frame and requirements; the plan's owners do not matter. Refuses 1 to 11,
- * 16. out: the first *length bytes are the file of the plan with that table, all past them as before. *length: 0 where
- * no table is accepted; out is then untouched.
+ * Searches for the best table with the plan's frame and requirements; its owners are checked, as all of the file is,
+ * and else not looked at. Refuses 1 to 11, 16. out: the first *length bytes are the file of the plan with that table,
+ * all past them as before. *length: size, or 0 where no table is accepted; out is then untouched.
  */
 size_t gwelathur_search(const uint8_t *plan, size_t size, uint8_t out[static GWELATHUR_LONGEST], size_t *length);
 
@@ -77,9 +85,10 @@ size_t gwelathur_search(const uint8_t *plan, size_t size, uint8_t out[static GWE
 size_t gwelathur_write(const uint8_t *plan, size_t size, uint8_t *out, size_t room, size_t *length);
 
 /*
- * One step of the arbiter, one slot. Refuses 1 to 11, 17, 18. record: the position in the frame, then the pending counts
- * of clients 1 to 8; changed in place, the counts past n kept. arrivals: the requests of clients 1 to n, n of them.
- * answer: the client served, or 0, then how many requests of clients 1 to 8 were turned away; all 0 in a refusal.
+ * One step of the arbiter, one slot. Refuses 1 to 11, 17, 18. record: the position in the frame, then the pending
+ * counts of clients 1 to 8; changed in place, the counts past n kept. arrivals: the requests of clients 1 to n, count
+ * of them. answer: the client served, or 0, then how many requests of clients 1 to 8 were turned away; all 0 in a
+ * refusal.
  */
 size_t gwelathur_step(const uint8_t *plan, size_t size, uint8_t record[static GWELATHUR_RECORD],
                       const uint8_t *arrivals, size_t count, uint8_t answer[static GWELATHUR_RECORD]);

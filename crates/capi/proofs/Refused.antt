@@ -1,5 +1,5 @@
--- What a refusal leaves, for C callers: "A refusal outside reading returns its number with all other results 0, leaves a
--- lent output untouched and an arbiter record unchanged"; so does one of reading, since the answers about a plan with
+-- What a refusal leaves, for C callers: "A refusal outside reading returns its number with all other results 0, leaves
+-- a lent output untouched and an arbiter record unchanged"; so does one of reading, since the answers about a plan with
 -- every number 0 are refusals, too.
 -- Assumes nothing.
 use mathlib.Core.Path.{_≡_, refl, sym, ap, subst, _∙_}
@@ -141,7 +141,8 @@ pub step-unchanged : (s bytes xs : List ℕ) (r : ℕ) (after answer : List ℕ)
     → ToldStep s bytes xs r after answer → (after ≡ bytes) × (answer ≡ replicate 9 0)
 unfolding advanced stepCheck planCheck requirementsCheck rangeCheck
 step-unchanged s bytes xs r after answer long r> h =
-    let number = told-number (λ plan x. x ≡ stepOf plan (recordIn bytes) xs) (λ x. stepNumber (x .answer .service)) none s
+    let number =
+    told-number (λ plan x. x ≡ stepOf plan (recordIn bytes) xs) (λ x. stepNumber (x .answer .service)) none s
     (h .stepped) r (h .is) (h .returned) r> in
     let left = subst Left (sym (h .is)) kept number in
     (h .kept ∙ left .0, h .stored ∙ left .1)

@@ -1,6 +1,6 @@
--- What C callers are told. A plan is handed in as the bytes of its stream. Each answer is the library's own answer about
--- the plan that was read; after a refused read that is "a plan with every number 0", so that all values of the answer
--- are 0, too. A refusal's number is returned, reading's first, and the answer's values stand in lent memory.
+-- What C callers are told. A plan is handed in as the bytes of its stream. Each answer is the library's own answer
+-- about the plan that was read; after a refused read that is "a plan with every number 0", so that all values of the
+-- answer are 0, too. A refusal's number is returned, reading's first, and the answer's values stand in lent memory.
 use mathlib.Core.Path.{_≡_}
 use mathlib.Core.List.{List, [], _∷_}
 use Prim.Native.Nat.{ℕ}

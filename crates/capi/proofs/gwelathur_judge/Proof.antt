@@ -23,7 +23,8 @@ returns c =
     let asked = c .before .before .before .before .before .before .judge in
     let read = c .before .before .before .before .before .before .before .before .read in
     let tell = c .before .tell-judged .ensures in
-    told (asked .result) (read .ensures .0) (asked .ensures) (tell .0) (c .first-number .ensures) (listed (tell .1) (listed (tell .2) (listed (tell .3) (listed (tell .4) refl))))
+    let stored = listed (tell .1) (listed (tell .2) (listed (tell .3) (listed (tell .4) refl))) in
+    told (asked .result) (read .ensures .0) (asked .ensures) (tell .0) (c .first-number .ensures) stored
 
 pub gwelathur-judge-spec : {M : Type 1} → statement M
 gwelathur-judge-spec =

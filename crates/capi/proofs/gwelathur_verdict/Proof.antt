@@ -23,7 +23,8 @@ returns c =
     let asked = c .before .before .before .verdict-of in
     let read = c .before .before .before .before .before .read in
     let tell = c .before .tell-verdict .ensures in
-    told (asked .result) (read .ensures .0) (asked .ensures) (tell .0) (c .first-number .ensures) (listed (tell .1) refl)
+    let stored = listed (tell .1) refl in
+    told (asked .result) (read .ensures .0) (asked .ensures) (tell .0) (c .first-number .ensures) stored
 
 pub gwelathur-verdict-spec : {M : Type 1} → statement M
 gwelathur-verdict-spec =

@@ -23,7 +23,8 @@ returns c =
     let asked = c .before .before .before .wait-for in
     let read = c .before .before .before .before .before .read in
     let tell = c .before .tell-wait .ensures in
-    told (asked .result) (read .ensures .0) (asked .ensures) (tell .0) (c .first-number .ensures) (listed (tell .1) refl)
+    let stored = listed (tell .1) refl in
+    told (asked .result) (read .ensures .0) (asked .ensures) (tell .0) (c .first-number .ensures) stored
 
 pub gwelathur-wait-spec : {M : Type 1} → statement M
 gwelathur-wait-spec =

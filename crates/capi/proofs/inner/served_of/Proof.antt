@@ -13,7 +13,8 @@ enum-known-service c = search needs
 
 cast-result : tie.Need-cast-result
 cast-result c =
-    let small = subst (λ (x : Service). clientServed x < 256) (c .before .service .given .1) (c .before .before .before .pre) in
+    let start = c .before .before .before in
+    let small = subst (λ (x : Service). clientServed x < 256) (c .before .service .given .1) (start .pre) in
     search needs
 
 enum-told : tie.Need-enum-told

@@ -24,7 +24,8 @@ number-of-requires c κs = search needs
 
 returns : tie.Need-returns
 returns c =
-    let turned = c .before .before .before .before .before .before .before .before .before .before .before .args .stepped .answer .turned in
+    let start = c .before .before .before .before .before .before .before .before .before .before .before in
+    let turned = start .args .stepped .answer .turned in
     let record-put = c .before .before .before .before .put-nine .ensures in
     let answer-put = c .before .put-nine2 .ensures in
     (c .number-of .ensures, record-put, answer-put ∙ ap (λ (x : ℕ). x ∷ turned) (c .before .before .served-of .ensures))
