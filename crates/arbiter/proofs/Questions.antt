@@ -2,10 +2,12 @@
 -- entries; each refusal has its number.
 -- Assumes nothing.
 use mathlib.Core.Path.{_≡_}
-use Prim.Native.Nat.{ℕ, _≤_, _<_}
+use Prim.Native.Nat.{ℕ, suc, _≤_, _<_}
+use native.Mathlib.Nat.{mod-lt}
 use native.Mathlib.Omega.{arith}
 use lib.Dec.{ltb, eqb}
 use borrow.Author.Tests.{ltb-true, eqb-true, lt-ltb, eq-eqb}
+use Rattle.frame.specs.Frame.{nextOf}
 use Rattle.records.specs.Refusal as refusal
 use Rattle.records.specs.First.{orElse, Numbered}
 use Rattle.records.specs.declared.Outcome.the-variants.{Fine}
@@ -41,6 +43,14 @@ pub step-pass : (plan : Plan) (position arrived : ℕ) → Steps plan position a
 unfolding stepCheck positionCheck arrivalsCheck
 step-pass plan position arrived ok =
     simp (plan-pass plan (ok .checked), lt-ltb position (plan .f) (ok .below), eq-eqb arrived (plan .n) (ok .many))
+
+-- where a step passes, one in the next slot with as many arrivals does too
+pub next-passes : (plan : Plan) (position arrived : ℕ) → stepCheck plan position arrived ≡ Fine
+    → stepCheck plan (nextOf (plan .f) position) arrived ≡ Fine
+next-passes plan position arrived h =
+    let ok = step-fine plan position arrived h in
+    step-pass plan (nextOf (plan .f) position) arrived
+    (record { checked = ok .checked; below = mod-lt (suc position) (ok .checked .bounds .f-low); many = ok .many })
 
 -- the owner of its slot is 0 or a client
 pub owner-small : (plan : Plan) (position arrived : ℕ) → Steps plan position arrived → ownerOf plan position ≤ 8

@@ -23,7 +23,7 @@ use Rattle.arbiter.specs.Step.{ruleOf, countOf, arrivedOf, queueAt, turn
 use Rattle.arbiter.specs.Step.{clientServed, stepCheck}
 use Rattle.arbiter.specs.Run.{recordAfter, totalOf, Runs, servedOf, turnedOf, takenOf, pendingOf}
 use Rattle.arbiter.specs.Run.{servedInOf}
-use Rattle.arbiter.proofs.Questions.{Steps, step-pass}
+use Rattle.arbiter.proofs.Questions.{Steps, step-pass, next-passes}
 use Rattle.arbiter.proofs.Slots.{serves-is, less-is, step-advances}
 
 -- ---- one step
@@ -46,9 +46,8 @@ module _ (plan : Plan) (arb : Arbiter) (xs : List ℕ) (ok : Steps plan (arb .po
 
   -- a caller that steps on with as many arrivals is not refused
   pub passes-again : stepCheck plan (advanced plan arb xs .next .position) (length xs) ≡ Fine
-  passes-again =
-      step-pass plan (advanced plan arb xs .next .position) (length xs)
-      (record { checked = ok .checked; below = rw advances-so at next-below; many = ok .many })
+  unfolding advanced
+  passes-again = next-passes plan (arb .position) (length xs) (step-pass plan (arb .position) (length xs) ok)
 
   module _ (i : ℕ) (i< : i < plan .n) where
     joined-at : getD (joined plan arb xs) i 0 ≡ queueAt plan arb xs i

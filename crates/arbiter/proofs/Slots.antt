@@ -8,23 +8,23 @@ use Prim.Native.Nat.{ℕ, zero, suc, _+_, _-_, _≤_, _<_}
 use native.Mathlib.Decide.{ℕ-discrete, decLt}
 use native.Mathlib.Omega.{arith}
 use lib.Dec.{ltb}
-use lib.ListN.{length, getD, set}
+use lib.ListN.{length, getD, set, replicate}
 use lib.Seq.{getD-set-same, getD-set-other}
-use borrow.Author.Tests.{ltb-true, lt-ltb, le-ltb}
+use borrow.Author.Tests.{lt-ltb, le-ltb}
 use Rattle.frame.specs.Frame.{nextOf}
 use Rattle.frame.specs.Queue.{serve}
 use Rattle.records.specs.First.{pick, numberOf}
 use Rattle.records.specs.declared.Outcome.{Outcome}
 use Rattle.records.specs.declared.Outcome.the-variants as outcome
-use Rattle.records.specs.Pieces.{padded}
+use Rattle.records.specs.Pieces.{onto, padded}
 use Rattle.plan.specs.declared.Plan.{Plan}
 use Rattle.plan.specs.Plan.{ownerOf, isClient}
 use Rattle.plan.proofs.Laws.{client-is, client-not}
 use Rattle.arbiter.specs.declared.Arbiter.{Arbiter}
 use Rattle.arbiter.specs.declared.Service.the-variants.{Given}
 use Rattle.arbiter.specs.declared.Stepped.{Stepped}
-use Rattle.arbiter.specs.Step.{servedBy, lessOne, turnedAt, joined, advanced, stepCheck, refusedStep}
-use Rattle.arbiter.specs.Step.{steppedBy, stepOf, stepNumber, clientServed}
+use Rattle.arbiter.specs.Step.{servedBy, lessOne, turnedAt, joined, servedNow, advanced, stepCheck}
+use Rattle.arbiter.specs.Step.{refusedStep, steppedBy, stepOf, stepNumber, clientServed}
 
 -- ---- the client served
 
@@ -67,16 +67,6 @@ served-other : (owner c : ℕ) (counts : List ℕ) → 0 < c → owner ≢ c →
 served-other owner c counts c> other e =
     ⊎-elim (λ (h : servedBy owner counts ≡ 0). omega arith) (λ (h : servedBy owner counts ≡ owner). other (sym h ∙ e))
     (served-either owner counts)
-
--- nobody who has nothing pending
-pub served-pending : (owner i : ℕ) (counts : List ℕ) → servedBy owner counts ≡ suc i → 0 < getD counts i 0
-unfolding servedBy
-served-pending zero i counts e = absurd (omega arith)
-served-pending (suc k) i counts e = by (ltb 0 (getD counts k 0)) refl e
-  where
-    by : (b : Bool) → ltb 0 (getD counts k 0) ≡ b → pick b (suc k) 0 ≡ suc i → 0 < getD counts i 0
-    by true h e = let same : k ≡ i = omega arith in rw (← same) (ltb-true 0 (getD counts k 0) h)
-    by false h e = absurd (omega arith)
 
 -- ---- the counts after service
 
@@ -132,17 +122,16 @@ less-is served i counts l = by (ℕ-discrete served (i + 1))
 
 -- ---- the whole step
 
--- its parts, one after the other
-pub advances : (plan : Plan) (arb : Arbiter) (xs counts turned left : List ℕ) (owner served next : ℕ)
-    → counts ≡ joined plan arb xs → turned ≡ padded (turnedAt plan arb xs) (plan .n) 8 0
-    → owner ≡ ownerOf plan (arb .position) → served ≡ servedBy owner counts → left ≡ lessOne served counts
-    → next ≡ nextOf (plan .f) (arb .position)
+-- the slot's work, and the position after it
+pub advances : (plan : Plan) (arb : Arbiter) (xs left turned : List ℕ) (served next : ℕ)
+    → served ≡ servedNow plan arb xs → left ≡ lessOne served (joined plan arb xs)
+    → turned ≡ onto (turnedAt plan arb xs) (plan .n) (replicate 8 0) → next ≡ nextOf (plan .f) (arb .position)
     → record {
       answer = record { service = Given served; turned = turned };
       next = record { position = next; pending = left };
     } ≡ advanced plan arb xs
-unfolding advanced
-advances plan arb xs counts turned left owner served next e t o s l p = rw (l, s, o, e, t, p)
+unfolding advanced padded
+advances plan arb xs left turned served next s l t p = rw (l, s, t, p)
 
 pub step-refused : (plan : Plan) (arb : Arbiter) (xs : List ℕ) {number offset : ℕ}
     → stepCheck plan (arb .position) (length xs) ≡ outcome.Refused number offset

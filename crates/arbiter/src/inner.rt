@@ -10,12 +10,13 @@ use records::or_else;
 use records::refusal;
 use records::wide;
 ghost use mathlib.Core.Path.{_≡_};
-ghost use Prim.Native.Nat.{ℕ, suc, _≤_, _<_};
+ghost use Prim.Native.Nat.{_≤_};
 ghost use lib.ListN.{length, getD};
 ghost use Rattle.frame.specs.Queue.{oneSlot, queue};
-ghost use Rattle.records.specs.Pieces.{onto, padded};
+ghost use Rattle.records.specs.Pieces.{onto};
 ghost use Rattle.records.specs.declared.Outcome.the-variants.{Fine};
-ghost use Rattle.arbiter.specs.Step.{ruleOf, servedBy, lessOne, advanced};
+ghost use Rattle.arbiter.specs.declared.Arbiter.{Arbiter};
+ghost use Rattle.arbiter.specs.Step.{ruleOf, servedBy, lessOne, turnedAt, joined, servedNow, advanced};
 ghost use Rattle.arbiter.specs.Step.{positionCheck, arrivalsCheck, stepCheck};
 
 // The most that a client has pending.
@@ -71,63 +72,63 @@ fn away_of(pending: u8, arrived: u8) -> u8
     if arrived < room { 0 } else { arrived - room }
 }
 
-// The pending counts after arrivals; those past n are kept.
-fn join(plan: Plan, pending: [u8; 8], arrivals: &[u8]) -> [u8; 8]
-    requires { ⌜ (plan .n ≤ 8) × (length (now arrivals) ≡ plan .n) ⌝ }
-    ensures { λ r. ⌜ r ≡ onto (λ i. queue (ruleOf plan i) (getD pending i 0) (getD (now (arrivals .entry)) i 0))
-        (plan .n) pending ⌝ }
+// Each client's arrivals join its lent pending count, and those turned away are counted; places past n are kept.
+fn arrive(plan: Plan, pending: &mut [u8], arrivals: &[u8], turned: &mut [u8])
+    requires { ⌜ length (now arrivals) ≡ plan .n ⌝ }
+    requires { ⌜ (plan .n ≤ length (now pending)) × (plan .n ≤ length (now turned)) ⌝ }
+    ensures { λ r. ⌜ now (pending .exit) ≡ onto
+        (λ i. queue (ruleOf plan i) (getD (now (pending .entry)) i 0) (getD (now (arrivals .entry)) i 0))
+        (plan .n) (now (pending .entry)) ⌝ }
+    ensures { λ r. ⌜ now (turned .exit) ≡ onto
+        (λ i. ruleOf plan i .turns (getD (now (pending .entry)) i 0) (getD (now (arrivals .entry)) i 0))
+        (plan .n) (now (turned .entry)) ⌝ }
 {
     let n = plan.n;
-    let mut counts = pending;
     let mut i = 0;
     while i < n {
-        counts[i] = queue_of(pending[i], arrivals[i]);
+        let count = pending[i];
+        pending[i] = queue_of(count, arrivals[i]);
+        turned[i] = away_of(count, arrivals[i]);
         i += 1;
     }
-    counts
 }
 
-// Each client's requests turned away, 0 past n.
-fn turn_away(plan: Plan, pending: [u8; 8], arrivals: &[u8]) -> [u8; 8]
-    requires { ⌜ (plan .n ≤ 8) × (length (now arrivals) ≡ plan .n) ⌝ }
-    ensures { λ r. ⌜ r ≡ padded (λ i. ruleOf plan i .turns (getD pending i 0) (getD (now (arrivals .entry)) i 0))
-        (plan .n) 8 0 ⌝ }
-{
-    let n = plan.n;
-    let mut counts = [0u8; 8];
-    let mut i = 0;
-    while i < n {
-        counts[i] = away_of(pending[i], arrivals[i]);
-        i += 1;
-    }
-    counts
-}
-
-// The client served in a slot of this owner, 0 for none.
-fn served_by(owner: usize, counts: [u8; 8]) -> usize
+// The client served in a slot of this owner, 0 for none; its lent count is then one less.
+fn serve(owner: usize, counts: &mut [u8; 8]) -> usize
     requires { ⌜ owner ≤ 8 ⌝ }
-    ensures { λ r. ⌜ r ≡ servedBy owner counts ⌝ }
+    ensures { λ r. ⌜ (r ≡ servedBy owner (now (counts .entry)))
+        × (now (counts .exit) ≡ lessOne r (now (counts .entry))) ⌝ }
 {
     if owner < 1 {
         return 0;
     }
     let i = owner - 1;
-    if 0 < counts[i] { owner } else { 0 }
+    let count = counts[i];
+    if 0 < count {
+        counts[i] = count - 1;
+        return owner;
+    }
+    0
 }
 
-// The counts with one less for the client served, 0 for none. That client has a request pending.
-fn less_one(served: usize, counts: [u8; 8]) -> [u8; 8]
-    requires { ⌜ served ≤ 8 ⌝ }
-    requires { ⌜ ((i : ℕ) → served ≡ suc i → 0 < getD counts i 0) ⌝ }
-    ensures { λ r. ⌜ r ≡ lessOne served counts ⌝ }
+// One slot's work on lent counts, where the caller keeps the position: the client served, 0 for none.
+pub fn serve_slot(
+    plan: Plan,
+    position: usize,
+    pending: &mut [u8; 8],
+    arrivals: &[u8],
+    turned: &mut [u8; 8],
+) -> usize
+    requires { ⌜ stepCheck plan position (length (now arrivals)) ≡ Fine ⌝ }
+    ensures { λ r. ⌜ (let arb : Arbiter = record { position = position; pending = now (pending .entry) } in
+        let xs = now (arrivals .entry) in
+        (r ≡ servedNow plan arb xs) × (now (pending .exit) ≡ lessOne r (joined plan arb xs))
+        × (now (turned .exit) ≡ onto (turnedAt plan arb xs) (plan .n) (now (turned .entry)))) ⌝ }
 {
-    if served < 1 {
-        return counts;
-    }
-    let i = served - 1;
-    let mut left = counts;
-    left[i] = counts[i] - 1;
-    left
+    let owners = plan.owners;
+    let owner = wide(owners[position]);
+    arrive(plan, pending, arrivals, turned);
+    serve(owner, pending)
 }
 
 // A step that is not refused, for callers that step often on one plan that they have checked.
@@ -136,20 +137,16 @@ pub fn advance(plan: Plan, arbiter: Arbiter, arrivals: &[u8]) -> Stepped
     ensures { λ r. ⌜ r ≡ advanced plan arbiter (now (arrivals .entry)) ⌝ }
 {
     let position = arbiter.position;
-    let pending = arbiter.pending;
-    let owners = plan.owners;
-    let owner = wide(owners[position]);
-    let counts = join(plan, pending, arrivals);
-    let turned = turn_away(plan, pending, arrivals);
-    let served = served_by(owner, counts);
-    let left = less_one(served, counts);
+    let mut pending = arbiter.pending;
+    let mut turned = [0u8; 8];
+    let served = serve_slot(plan, position, &mut pending, arrivals, &mut turned);
     let answer = Answer {
         service: Service::Given(served),
         turned: turned,
     };
     let after = Arbiter {
         position: next(plan.f, position),
-        pending: left,
+        pending: pending,
     };
     Stepped {
         answer: answer,

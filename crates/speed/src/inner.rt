@@ -1,8 +1,10 @@
 // Plans, records and answers between arrays and the library's values, and a run of inner steps.
+use arbiter::Answer;
 use arbiter::Arbiter;
 use arbiter::Service;
 use arbiter::Stepped;
-use arbiter::inner::advance;
+use arbiter::inner::serve_slot;
+use frame::inner::next;
 use judge::Verdict;
 use plan::Client;
 use plan::Plan;
@@ -135,16 +137,31 @@ pub fn tell_step(stepped: Stepped, record: &mut [u8; 9], answer: &mut [u8; 9]) -
     }
 }
 
-// This many steps after one step, each with the same arrivals.
+// This many inner steps, at least one, each with the same arrivals: the last step's answer, and the record after it.
 pub fn steps(plan: Plan, arbiter: Arbiter, arrivals: &[u8], times: usize) -> Stepped
     requires { ⌜ stepCheck plan (arbiter .position) (length (now arrivals)) ≡ Fine ⌝ }
 {
-    let mut last = advance(plan, arbiter, arrivals);
+    let f = plan.f;
+    let mut position = arbiter.position;
+    let mut pending = arbiter.pending;
+    let mut turned = [0u8; 8];
+    let mut served = serve_slot(plan, position, &mut pending, arrivals, &mut turned);
     let mut i = 1;
     while i < times {
-        let next = last.next;
-        last = advance(plan, next, arrivals);
+        position = next(f, position);
+        served = serve_slot(plan, position, &mut pending, arrivals, &mut turned);
         i += 1;
     }
-    last
+    let answer = Answer {
+        service: Service::Given(served),
+        turned: turned,
+    };
+    let after = Arbiter {
+        position: next(f, position),
+        pending: pending,
+    };
+    Stepped {
+        answer: answer,
+        next: after,
+    }
 }

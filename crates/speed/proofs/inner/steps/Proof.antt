@@ -1,4 +1,4 @@
--- Each step passes as the one before it did (`passes-again`).
+-- Each step passes as the one before it did (`next-passes`).
 -- Assumes nothing.
 use mathlib.Core.Path.{_≡_}
 use Prim.Native.Nat.{_-_}
@@ -6,26 +6,29 @@ use lib.ListN.{length}
 use borrow.Author.Needs.{needs}
 use Rattle.records.specs.declared.Outcome.the-variants.{Fine}
 use Rattle.arbiter.specs.Step.{stepCheck}
-use Rattle.arbiter.proofs.Questions.{step-fine}
-use Rattle.arbiter.proofs.Runs.{passes-again}
+use Rattle.arbiter.proofs.Questions.{step-fine, next-passes}
 use Rattle.speed.proofs.inner.steps.Statement.{statement}
 use Rattle.speed.proofs.inner.steps.Tie as tie
 
 abbrev Inv-loop : tie.InvT-loop
-Inv-loop plan arrivals times last₀ i₀ last i = stepCheck plan (last .next .position) (length arrivals) ≡ Fine
+Inv-loop plan arrivals times f position₀ pending₀ turned₀ served₀ i₀ position pending turned served i =
+    stepCheck plan position (length arrivals) ≡ Fine
 
 abbrev μ-loop : tie.MeasureT-loop
-μ-loop plan arrivals times last₀ i₀ last i = times - i
+μ-loop plan arrivals times f position₀ pending₀ turned₀ served₀ i₀ position pending turned served i = times - i
 
-advance-requires : tie.Need-advance-requires Inv-loop μ-loop
-advance-requires c κs = c .before .pre
+serve-slot-requires : tie.Need-serve-slot-requires Inv-loop μ-loop
+serve-slot-requires c κs = c .before .before .before .before .pre
 
 loop-holds : tie.Need-loop-holds Inv-loop μ-loop
-loop-holds c =
-    rw (c .advance .ensures) (passes-again _ _ _ (step-fine _ _ _ (c .before .before .pre)))
+loop-holds c = c .before .before .before .before .before .pre
 
-advance-requires-2 : tie.Need-advance-requires-2 Inv-loop μ-loop
-advance-requires-2 c κs = c .before .before .loop .inv
+next-requires : tie.Need-next-requires Inv-loop μ-loop
+next-requires c κs = step-fine _ _ _ (c .before .loop .inv) .below
+
+serve-slot-requires-2 : tie.Need-serve-slot-requires-2 Inv-loop μ-loop
+serve-slot-requires-2 c κs =
+    rw (c .before .before .next .ensures) (next-passes _ _ _ (c .before .before .before .before .loop .inv))
 
 add-i : tie.Need-add-i Inv-loop μ-loop
 add-i c = search needs
@@ -35,7 +38,11 @@ loop-less c = search needs
 
 loop-again : tie.Need-loop-again Inv-loop μ-loop
 loop-again c =
-    rw (c .advance2 .ensures) (passes-again _ _ _ (step-fine _ _ _ (c .before .before .before .loop .inv)))
+    rw (c .before .before .before .next .ensures)
+    (next-passes _ _ _ (c .before .before .before .before .before .loop .inv))
+
+next-requires-2 : tie.Need-next-requires-2 Inv-loop μ-loop
+next-requires-2 c κs = step-fine _ _ _ (c .before .loop .inv) .below
 
 returns : tie.Need-returns Inv-loop μ-loop
 returns c = search needs
@@ -46,10 +53,12 @@ steps-spec =
     (tie.spec
     Inv-loop
     μ-loop
-    advance-requires
+    serve-slot-requires
     loop-holds
-    advance-requires-2
+    next-requires
+    serve-slot-requires-2
     add-i
     loop-less
     loop-again
+    next-requires-2
     returns)
