@@ -1,10 +1,9 @@
 -- Laws of a plan stream's records and their places: what a record that passes says, and where the next one stands.
 -- Assumes nothing.
-use mathlib.Core.Path.{_≡_, refl, sym, _∙_}
+use mathlib.Core.Path.{_≡_, refl, ap, sym, _∙_}
 use mathlib.Core.Bool.{Bool, true, false}
 use mathlib.Core.List.{List}
 use Prim.Native.Nat.{ℕ, zero, suc, _+_, _*_, _≤_, _<_}
-use native.Mathlib.Numerals.{add-one}
 use native.Mathlib.Omega.{arith}
 use lib.Dec.{eqb}
 use lib.ListN.{length, getD}
@@ -59,9 +58,14 @@ pub after-whole : (s : List ℕ) (at kind : ℕ) → getD s at 0 ≡ kind → af
 unfolding after
 after-whole s at kind h = rw h
 
-pub place-more : (s : List ℕ) (at i : ℕ) → place s at (i + 1) ≡ after s (place s at i)
+-- records of one kind are of one length
+place-whole : (s : List ℕ) (at kind k : ℕ) → ((i : ℕ) → i < k → getD s (place s at i) 0 ≡ kind)
+    → place s at k ≡ at + wholeOf kind * k
 unfolding place
-place-more s at i = rw add-one
+place-whole s at kind zero h = omega arith
+place-whole s at kind (suc k) h =
+    after-whole s (place s at k) kind (h k (omega arith))
+    ∙ omega (arith, place-whole s at kind k (λ i l. h i (omega arith)))
 
 -- ---- what each record says that passes
 
@@ -113,6 +117,12 @@ pub clients-fine : (s : List ℕ) (at n : ℕ) → firstOf (clientDue s at) n �
 unfolding clientDue
 clients-fine s at n h i l = client-read-fine s (place s at i) (i + 1) (first-fine (clientDue s at) n h i l)
 
+-- and where they stand
+pub place-clients : (s : List ℕ) (at n : ℕ) → firstOf (clientDue s at) n ≡ Fine → (i : ℕ) → i ≤ n
+    → place s at i ≡ at + wholeOf clientKind * i
+place-clients s at n h i l =
+    place-whole s at clientKind i (λ j k. clients-fine s at n h j (omega arith) .whole .found)
+
 -- a row's: its eight slots pass
 pub record RowFine (s : List ℕ) (f n at j : ℕ) : Type 0 where
   pub whole : Whole s at rowKind
@@ -128,14 +138,11 @@ pub rows-fine : (s : List ℕ) (f n at m : ℕ) → firstOf (rowDue s f n at) m 
 unfolding rowDue
 rows-fine s f n at m h j l = row-read-fine s f n (place s at j) j (first-fine (rowDue s f n at) m h j l)
 
--- rows are of one length
+-- and where they stand
 pub place-rows : (s : List ℕ) (f n at m : ℕ) → firstOf (rowDue s f n at) m ≡ Fine → (j : ℕ) → j ≤ m
     → place s at j ≡ at + wholeOf rowKind * j
-unfolding place
-place-rows s f n at m h zero l = omega arith
-place-rows s f n at m h (suc j) l =
-    let k = rows-fine s f n at m h j (omega arith) in
-    after-whole s (place s at j) rowKind (k .whole .found) ∙ omega (arith, place-rows s f n at m h j (omega arith))
+place-rows s f n at m h j l =
+    place-whole s at rowKind j (λ i k. rows-fine s f n at m h i (omega arith) .whole .found)
 
 -- ---- a stream that passes
 
@@ -170,3 +177,12 @@ unfolding readCheck
 read-fine s h =
     let a = both-fine _ _ h in
     record { head = head-fine s (a .0); rest = rest-fine s (fIn s) (nIn s) (a .1) }
+
+-- where its clients begin, and where its rows
+pub to-clients : (s : List ℕ) → ReadFine s → toClients s ≡ wholeOf headKind
+to-clients s z = after-whole s 0 headKind (z .head .whole .found)
+
+pub to-rows : (s : List ℕ) → ReadFine s → toRows s (nIn s) ≡ wholeOf headKind + wholeOf clientKind * nIn s
+to-rows s z =
+    place-clients s (toClients s) (nIn s) (z .rest .clients) (nIn s) (omega arith)
+    ∙ ap (λ (k : ℕ). k + wholeOf clientKind * nIn s) (to-clients s z)

@@ -3,7 +3,7 @@ use records::refusal;
 use records::wide;
 ghost use mathlib.Core.Path.{_≡_};
 ghost use Prim.Native.Nat.{_*_, _<_, _≤_};
-ghost use Rattle.stream.specs.Kind.{rowKind, bodyOf, wholeOf, classOf};
+ghost use Rattle.stream.specs.Kind.{clientKind, rowKind, bodyOf, wholeOf, classOf};
 
 pub const HEAD: u8 = 1; // f, n
 
@@ -29,6 +29,14 @@ pub fn whole_of(kind: u8) -> usize
     ensures { λ r. ⌜ (r ≡ wholeOf kind) × (r ≤ 256) ⌝ }
 {
     1 + body_of(kind)
+}
+
+// The length of k clients' records.
+pub fn clients_length(k: usize) -> usize
+    requires { ⌜ k ≤ 8 ⌝ }
+    ensures { λ r. ⌜ r ≡ wholeOf clientKind * k ⌝ }
+{
+    whole_of(CLIENT) * k
 }
 
 // The length of k rows.

@@ -12,7 +12,7 @@ use records::or_else;
 use records::refusal;
 use records::wide;
 ghost use mathlib.Core.Path.{_≡_};
-ghost use Prim.Native.Nat.{_+_, _*_, _<_, _≤_};
+ghost use Prim.Native.Nat.{ℕ, _+_, _*_, _<_, _≤_};
 ghost use lib.ListN.{length};
 ghost use Rattle.records.specs.First.{firstOf};
 ghost use Rattle.records.specs.Pieces.{padded};
@@ -23,28 +23,12 @@ ghost use Rattle.stream.specs.Read.{after, place, dueCheck, headRead, cl
 ghost use Rattle.stream.specs.Read.{clientDue, slotCheck, slotDue, rowRead, rowDue, endRead};
 ghost use Rattle.stream.specs.Read.{restRead, readCheck, clientIn, ownerIn, planOf};
 
-// ---- places: what is asked of them only keeps sums from wrapping
-
-// The place after the record at a place.
+// The place after the record at a place; what is asked of places only keeps sums from wrapping.
 fn after(s: &[u8], at: usize) -> usize
     requires { ⌜ at ≤ 65536 ⌝ }
     ensures { λ r. ⌜ (r ≡ after (now (s .entry)) at) × (r ≤ at + 256) ⌝ }
 {
     at + kind::whole_of(kind_at(s, at))
-}
-
-// The place after k records.
-fn place(s: &[u8], at: usize, k: usize) -> usize
-    requires { ⌜ (at ≤ 4096) × (k ≤ 8) ⌝ }
-    ensures { λ r. ⌜ (r ≡ place (now (s .entry)) at k) × (r ≤ at + 256 * k) ⌝ }
-{
-    let mut to = at;
-    let mut i = 0;
-    while i < k {
-        to = after(s, to);
-        i += 1;
-    }
-    to
 }
 
 // ---- checks
@@ -118,7 +102,7 @@ fn check_clients(s: &[u8], at: usize, n: usize) -> Outcome
         if let Outcome::Refused(number, offset) = outcome {
             return Outcome::Refused(number, offset);
         }
-        to = after(s, to);
+        to += kind::whole_of(kind::CLIENT);
         i += 1;
     }
     Outcome::Fine
@@ -179,7 +163,7 @@ fn check_rows(s: &[u8], f: usize, n: usize, at: usize) -> Outcome
         if let Outcome::Refused(number, offset) = outcome {
             return Outcome::Refused(number, offset);
         }
-        to = after(s, to);
+        to += kind::whole_of(kind::ROW);
         j += 1;
     }
     Outcome::Fine
@@ -194,7 +178,7 @@ fn check_end(s: &[u8], at: usize) -> Outcome
     if let Outcome::Refused(number, offset) = due {
         return Outcome::Refused(number, offset);
     }
-    check_over(s, after(s, at))
+    check_over(s, at + kind::whole_of(kind::END))
 }
 
 // All that follows the head.
@@ -207,12 +191,12 @@ fn check_rest(s: &[u8], f: usize, n: usize) -> Outcome
     if let Outcome::Refused(number, offset) = clients {
         return Outcome::Refused(number, offset);
     }
-    let to_rows = place(s, to_clients, n);
+    let to_rows = to_clients + kind::clients_length(n);
     let rows = check_rows(s, f, n, to_rows);
     if let Outcome::Refused(number, offset) = rows {
         return Outcome::Refused(number, offset);
     }
-    check_end(s, place(s, to_rows, (f + 7) / 8))
+    check_end(s, to_rows + kind::rows_length((f + 7) / 8))
 }
 
 // The whole stream.
@@ -244,23 +228,40 @@ fn clients_in(s: &[u8], at: usize, n: usize) -> [Client; 8]
     let mut i = 0;
     while i < n {
         clients[i] = client_at(s, to);
-        to = after(s, to);
+        to += kind::whole_of(kind::CLIENT);
         i += 1;
     }
     clients
 }
 
-// The owners, 0 past f.
+// The first k owners of row j, put past those of the rows before it; the rows begin at a place.
+fn put_owners(owners: &mut [u8; 64], s: &[u8], at: usize, j: usize, k: usize)
+    requires { ⌜ (at ≤ 4096) × (k ≤ 8) × (8 * j + k ≤ 64) × (place (now s) at j ≡ at + wholeOf rowKind * j) ⌝ }
+    requires { ⌜ ((t : ℕ) → t < k → place (now s) at j + (1 + t) < length (now s)) ⌝ }
+    requires { ⌜ now owners ≡ padded (ownerIn (now s) at) (8 * j) 64 0 ⌝ }
+    ensures { λ r. ⌜ now (owners .exit) ≡ padded (ownerIn (now (s .entry)) at) (8 * j + k) 64 0 ⌝ }
+{
+    let row = at + kind::rows_length(j);
+    let mut t = 0;
+    while t < k {
+        owners[8 * j + t] = s[row + (1 + t)];
+        t += 1;
+    }
+}
+
+// The owners, 0 past f: full rows, then what f leaves of the last one.
 fn owners_in(s: &[u8], at: usize, f: usize, n: usize) -> [u8; 64]
     requires { ⌜ (at ≤ 4096) × (f ≤ 64) × (firstOf (rowDue (now s) f n at) (rowsOf f) ≡ Fine) ⌝ }
     ensures { λ r. ⌜ r ≡ padded (ownerIn (now (s .entry)) at) f 64 0 ⌝ }
 {
+    let full = f / 8;
     let mut owners = [0u8; 64];
-    let mut x = 0;
-    while x < f {
-        owners[x] = s[at + kind::rows_length(x / 8) + (1 + x % 8)];
-        x += 1;
+    let mut j = 0;
+    while j < full {
+        put_owners(&mut owners, s, at, j, 8);
+        j += 1;
     }
+    put_owners(&mut owners, s, at, full, f % 8);
     owners
 }
 
@@ -271,9 +272,9 @@ pub fn plan_at(s: &[u8]) -> Plan
 {
     let f = wide(s[1]);
     let n = wide(s[2]);
-    let to_clients = after(s, 0);
+    let to_clients = kind::whole_of(kind::HEAD);
     let clients = clients_in(s, to_clients, n);
-    let owners = owners_in(s, place(s, to_clients, n), f, n);
+    let owners = owners_in(s, to_clients + kind::clients_length(n), f, n);
     Plan {
         f: f,
         n: n,

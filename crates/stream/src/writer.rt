@@ -6,11 +6,13 @@ use records::inner::put_byte;
 use records::inner::put_word;
 ghost use mathlib.Core.Path.{_≡_};
 ghost use Prim.Native.Nat.{_+_, _<_, _≤_};
+ghost use lib.Dec.{ltb};
 ghost use lib.ListN.{length};
+ghost use Rattle.records.specs.First.{pick};
 ghost use Rattle.records.specs.Pieces.{many, firsts};
 ghost use Rattle.records.specs.Put.{Put};
 ghost use Rattle.stream.specs.Kind.{headKind, clientKind, rowKind, wholeOf, rowsOf};
-ghost use Rattle.stream.specs.Write.{headRecord, clientBytes, clientRecord, slotByte, rowByte};
+ghost use Rattle.stream.specs.Write.{headRecord, clientBytes, clientRecord, rowByte};
 ghost use Rattle.stream.specs.Write.{rowRecord, streamOf};
 ghost use Rattle.stream.specs.Trip.{Words, Held};
 
@@ -55,12 +57,11 @@ fn put_clients(out: &mut [u8], at: usize, plan: Plan) -> usize
     to
 }
 
-// The byte of slot x: its owner, and 255 past f.
-fn slot_byte(plan: Plan, x: usize) -> u8
-    requires { ⌜ plan .f ≤ 64 ⌝ }
-    ensures { λ r. ⌜ r ≡ slotByte plan x ⌝ }
+// The byte of slot x, where its owner is at hand: 255 past f.
+fn slot_byte(f: usize, x: usize, owner: u8) -> u8
+    ensures { λ r. ⌜ r ≡ pick (ltb x f) owner 255 ⌝ }
 {
-    if x < plan.f { plan.owners[x] } else { 255 }
+    if x < f { owner } else { 255 }
 }
 
 // The eight bytes of row j.
@@ -68,10 +69,13 @@ fn put_slots(out: &mut [u8], at: usize, plan: Plan, j: usize) -> usize
     requires { ⌜ (plan .f ≤ 64) × (j < 8) × (at + 8 ≤ length (now out)) ⌝ }
     ensures { λ r. ⌜ Put (now (out .entry)) at (firsts (rowByte plan j) 8) (now (out .exit)) r ⌝ }
 {
+    let f = plan.f;
+    let owners = plan.owners;
     let mut to = at;
     let mut t = 0;
     while t < 8 {
-        to = put_byte(out, to, slot_byte(plan, 8 * j + t));
+        let x = 8 * j + t;
+        to = put_byte(out, to, slot_byte(f, x, owners[x]));
         t += 1;
     }
     to
@@ -113,21 +117,6 @@ pub fn put_stream(out: &mut [u8], plan: Plan) -> usize
     put_byte(out, to_end, kind::END)
 }
 
-// The length of the clients' records.
-fn clients_length(plan: Plan) -> usize
-    requires { ⌜ plan .n ≤ 8 ⌝ }
-    ensures { λ r. ⌜ (r ≡ length (many (clientRecord plan) (plan .n))) × (r ≤ 2048) ⌝ }
-{
-    let n = plan.n;
-    let mut sum = 0;
-    let mut i = 0;
-    while i < n {
-        sum += kind::whole_of(kind::CLIENT);
-        i += 1;
-    }
-    sum
-}
-
 // The length of a plan's stream.
 pub fn stream_length(plan: Plan) -> usize
     requires { ⌜ (plan .f ≤ 64) × (plan .n ≤ 8) ⌝ }
@@ -135,7 +124,7 @@ pub fn stream_length(plan: Plan) -> usize
 {
     let rows = (plan.f + 7) / 8;
     kind::whole_of(kind::HEAD)
-        + clients_length(plan)
+        + kind::clients_length(plan.n)
         + kind::rows_length(rows)
         + kind::whole_of(kind::END)
 }

@@ -1,26 +1,27 @@
 -- `stream::reader::check_clients` meets its contract: the loop's invariant is that the clients before i pass,
 -- and where the next one stands.
 -- Assumes nothing.
-use mathlib.Core.Path.{_≡_, sym, _∙_}
+use mathlib.Core.Path.{_≡_, sym}
 use Prim.Native.Nat.{_+_, _-_, _*_, _≤_}
 use native.Mathlib.Omega.{arith}
 use borrow.Author.Needs.{needs}
 use Rattle.records.specs.First.{firstOf}
 use Rattle.records.specs.declared.Outcome.the-variants.{Fine}
 use Rattle.records.proofs.Checks.{first-more, first-stop}
-use Rattle.stream.specs.Read.{place, clientDue}
-use Rattle.stream.proofs.Records.{place-more}
+use Rattle.stream.specs.Kind.{clientKind, wholeOf}
+use Rattle.stream.specs.Read.{clientDue}
+use Rattle.stream.proofs.Records.{place-clients}
 use Rattle.stream.proofs.reader.check_clients.Statement.{statement}
 use Rattle.stream.proofs.reader.check_clients.Tie as tie
 
 abbrev Inv-loop : tie.InvT-loop
-Inv-loop s at n to₀ i₀ to i = (i ≤ n) × (firstOf (clientDue s at) i ≡ Fine) × (to ≡ place s at i) × (to ≤ at + 256 * i)
+Inv-loop s at n to₀ i₀ to i = (i ≤ n) × (firstOf (clientDue s at) i ≡ Fine) × (to ≡ at + wholeOf clientKind * i)
 
 abbrev μ-loop : tie.MeasureT-loop
 μ-loop s at n to₀ i₀ to i = n - i
 
 loop-holds : tie.Need-loop-holds Inv-loop μ-loop
-unfolding firstOf place
+unfolding firstOf
 loop-holds c = search needs
 
 add-check-client : tie.Need-add-check-client Inv-loop μ-loop
@@ -39,15 +40,19 @@ returns c =
     let check-client = c .before .before .before .check-client in
     let l = c .before .before .before .before .before .loop in
     let a = c .before .before .before .before .before .before .before .args in
-    let found = rw (l .inv .2) at (check-client .ensures) in
+    let there = place-clients (a .s .now) (a .at) (l .i) (l .inv .1) (l .i) (omega arith) in
+    let found = rw (l .inv .2, ← there) at (check-client .ensures) in
     first-stop (clientDue (a .s .now) (a .at)) (a .n) (l .i) (loop-test .taken) (l .inv .1) found
     (c .before .outcome .given .1)
 
 enum-told : tie.Need-enum-told Inv-loop μ-loop
 enum-told c = search needs
 
-after-requires : tie.Need-after-requires Inv-loop μ-loop
-after-requires c κs = search needs
+whole-of-requires : tie.Need-whole-of-requires Inv-loop μ-loop
+whole-of-requires c κs = search needs
+
+add-to : tie.Need-add-to Inv-loop μ-loop
+add-to c = search needs
 
 add-i : tie.Need-add-i Inv-loop μ-loop
 add-i c = search needs
@@ -61,10 +66,11 @@ loop-again c =
     let check-client = c .before .before .before .check-client in
     let l = c .before .before .before .before .before .loop in
     let a = c .before .before .before .before .before .before .before .args in
-    let found = rw (l .inv .2) at (check-client .ensures) in
-    let next = rw (l .inv .2) at (c .after .ensures .0) in
+    let there = place-clients (a .s .now) (a .at) (l .i) (l .inv .1) (l .i) (omega arith) in
+    let found = rw (l .inv .2, ← there) at (check-client .ensures) in
+    let w = c .whole-of .ensures .0 in
     let passed = first-more (clientDue (a .s .now) (a .at)) (l .i) (l .inv .1) found (c .before .enum-told .given .1) in
-    (omega arith, passed, next ∙ sym (place-more (a .s .now) (a .at) (l .i)), omega arith)
+    (omega arith, passed, omega arith)
 
 returns-2 : tie.Need-returns-2 Inv-loop μ-loop
 returns-2 c =
@@ -83,7 +89,8 @@ check-clients-spec =
     enum-known-outcome
     returns
     enum-told
-    after-requires
+    whole-of-requires
+    add-to
     add-i
     loop-less
     loop-again

@@ -1,9 +1,10 @@
 -- `stream::reader::check_end` meets its contract: the end record decides where it is refused, else what follows it.
 -- Assumes nothing.
-use mathlib.Core.Path.{_∙_}
 use borrow.Author.Needs.{needs}
 use Rattle.records.proofs.Checks.{stops, passes}
+use Rattle.stream.specs.Kind.{endKind}
 use Rattle.stream.specs.Read.{endRead}
+use Rattle.stream.proofs.Records.{due-found, after-whole}
 use Rattle.stream.proofs.reader.check_end.Statement.{statement}
 use Rattle.stream.proofs.reader.check_end.Tie as tie
 
@@ -22,8 +23,11 @@ returns c =
 enum-told : tie.Need-enum-told
 enum-told c = search needs
 
-after-requires : tie.Need-after-requires
-after-requires c κs = search needs
+whole-of-requires : tie.Need-whole-of-requires
+whole-of-requires c κs = search needs
+
+add-check-over : tie.Need-add-check-over
+add-check-over c = search needs
 
 check-over-requires : tie.Need-check-over-requires
 check-over-requires c κs = search needs
@@ -31,11 +35,13 @@ check-over-requires c κs = search needs
 returns-2 : tie.Need-returns-2
 unfolding endRead
 returns-2 c =
+    let a = c .before .before .before .before .before .before .args in
     let check-due = c .before .before .before .before .check-due in
     let enum-told = c .before .before .enum-told in
-    let over = c .check-over .ensures in
-    let next = c .before .after .ensures .0 in
-    passes (check-due .ensures) (enum-told .given .1) (over ∙ rw next)
+    let whole = due-found (a .s .now) (a .at) endKind (check-due .ensures) (enum-told .given .1) in
+    let next = after-whole (a .s .now) (a .at) endKind (whole .found) in
+    let over = rw (c .before .whole-of .ensures .0, ← next) at (c .check-over .ensures) in
+    passes (check-due .ensures) (enum-told .given .1) over
 
 pub check-end-spec : {M : Type 1} → statement M
 check-end-spec =
@@ -45,6 +51,7 @@ check-end-spec =
     enum-known-due
     returns
     enum-told
-    after-requires
+    whole-of-requires
+    add-check-over
     check-over-requires
     returns-2)

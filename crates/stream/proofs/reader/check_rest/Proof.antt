@@ -1,11 +1,15 @@
 -- `stream::reader::check_rest` meets its contract: the clients decide where one is refused, then the rows,
 -- then the end.
 -- Assumes nothing.
+use mathlib.Core.Path.{_≡_}
+use native.Mathlib.Omega.{arith}
 use borrow.Author.Needs.{needs}
 use Rattle.records.specs.First.{firstOf}
+use Rattle.records.specs.declared.Outcome.the-variants.{Fine}
 use Rattle.records.proofs.Checks.{stops, passes}
 use Rattle.stream.specs.Kind.{rowsOf}
-use Rattle.stream.specs.Read.{rowDue, toRows, restRead}
+use Rattle.stream.specs.Read.{rowDue, toClients, toRows, restRead}
+use Rattle.stream.proofs.Records.{place-clients, place-rows}
 use Rattle.stream.proofs.reader.check_rest.Statement.{statement}
 use Rattle.stream.proofs.reader.check_rest.Tie as tie
 
@@ -28,8 +32,11 @@ returns c =
 enum-told : tie.Need-enum-told
 enum-told c = search needs
 
-place-requires : tie.Need-place-requires
-place-requires c κs = search needs
+clients-length-requires : tie.Need-clients-length-requires
+clients-length-requires c κs = search needs
+
+add-to-rows : tie.Need-add-to-rows
+add-to-rows c = search needs
 
 check-rows-requires : tie.Need-check-rows-requires
 check-rows-requires c κs = search needs
@@ -41,24 +48,29 @@ returns-2 : tie.Need-returns-2
 unfolding restRead
 returns-2 c =
     let a = c .before .before .before .before .before .before .before .before .before .before .args in
+    let s = a .s .now in
     let after = c .before .before .before .before .before .before .before .before .after in
     let check-clients = c .before .before .before .before .before .before .before .check-clients in
     let enum-told = c .before .before .before .before .before .enum-told in
-    let place = c .before .before .before .before .place in
+    let clients-length = c .before .before .before .before .clients-length in
     let check-rows = c .before .before .before .check-rows in
     let clients = rw (after .ensures .0) at (check-clients .ensures) in
-    let rows = rw (place .ensures .0, after .ensures .0) at (check-rows .ensures) in
-    let due = firstOf (rowDue (a .s .now) (a .f) (a .n) (toRows (a .s .now) (a .n))) (rowsOf (a .f)) in
+    let k = place-clients s (toClients s) (a .n) (rw clients at (enum-told .given .1)) (a .n) (omega arith) in
+    let rows = rw (clients-length .ensures, after .ensures .0, ← k) at (check-rows .ensures) in
+    let due = firstOf (rowDue s (a .f) (a .n) (toRows s (a .n))) (rowsOf (a .f)) in
     passes clients (enum-told .given .1) (stops {x = due} _ rows (c .before .rows .given .1))
 
 enum-told-2 : tie.Need-enum-told-2
 enum-told-2 c = search needs
 
-add-place : tie.Need-add-place
-add-place c = search needs
+add-rows-length : tie.Need-add-rows-length
+add-rows-length c = search needs
 
-place-requires-2 : tie.Need-place-requires-2
-place-requires-2 c κs = search needs
+rows-length-requires : tie.Need-rows-length-requires
+rows-length-requires c κs = search needs
+
+add-check-end : tie.Need-add-check-end
+add-check-end c = search needs
 
 check-end-requires : tie.Need-check-end-requires
 check-end-requires c κs = search needs
@@ -67,16 +79,21 @@ returns-3 : tie.Need-returns-3
 unfolding restRead
 returns-3 c =
     let a = c .before .before .before .before .before .before .before .before .before .before .before .args in
+    let s = a .s .now in
     let after = c .before .before .before .before .before .before .before .before .before .after in
     let check-clients = c .before .before .before .before .before .before .before .before .check-clients in
     let enum-told = c .before .before .before .before .before .before .enum-told in
-    let place = c .before .before .before .before .before .place in
+    let clients-length = c .before .before .before .before .before .clients-length in
     let check-rows = c .before .before .before .before .check-rows in
     let enum-told2 = c .before .before .enum-told2 in
     let clients = rw (after .ensures .0) at (check-clients .ensures) in
-    let rows = rw (place .ensures .0, after .ensures .0) at (check-rows .ensures) in
-    let end = rw (c .before .place2 .ensures .0, place .ensures .0, after .ensures .0) at (c .check-end .ensures) in
-    let due = firstOf (rowDue (a .s .now) (a .f) (a .n) (toRows (a .s .now) (a .n))) (rowsOf (a .f)) in
+    let k = place-clients s (toClients s) (a .n) (rw clients at (enum-told .given .1)) (a .n) (omega arith) in
+    let rows = rw (clients-length .ensures, after .ensures .0, ← k) at (check-rows .ensures) in
+    let due = firstOf (rowDue s (a .f) (a .n) (toRows s (a .n))) (rowsOf (a .f)) in
+    let passed : due ≡ Fine = rw rows at (enum-told2 .given .1) in
+    let m = place-rows s (a .f) (a .n) (toRows s (a .n)) (rowsOf (a .f)) passed (rowsOf (a .f)) (omega arith) in
+    let length = c .before .rows-length .ensures in
+    let end = rw (clients-length .ensures, length, after .ensures .0, ← k, ← m) at (c .check-end .ensures) in
     passes clients (enum-told .given .1) (passes {x = due} rows (enum-told2 .given .1) end)
 
 pub check-rest-spec : {M : Type 1} → statement M
@@ -88,12 +105,14 @@ check-rest-spec =
     enum-known-clients
     returns
     enum-told
-    place-requires
+    clients-length-requires
+    add-to-rows
     check-rows-requires
     enum-known-rows
     returns-2
     enum-told-2
-    add-place
-    place-requires-2
+    add-rows-length
+    rows-length-requires
+    add-check-end
     check-end-requires
     returns-3)

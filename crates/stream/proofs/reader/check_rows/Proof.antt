@@ -1,23 +1,22 @@
 -- `stream::reader::check_rows` meets its contract: the loop's invariant is that the rows before j pass,
 -- and where the next one stands.
 -- Assumes nothing.
-use mathlib.Core.Path.{_≡_, sym, _∙_}
+use mathlib.Core.Path.{_≡_, sym}
 use Prim.Native.Nat.{_+_, _-_, _*_, _≤_}
 use native.Mathlib.Omega.{arith}
 use borrow.Author.Needs.{needs}
 use Rattle.records.specs.First.{firstOf}
 use Rattle.records.specs.declared.Outcome.the-variants.{Fine}
 use Rattle.records.proofs.Checks.{first-more, first-stop}
-use Rattle.stream.specs.Kind.{rowsOf}
-use Rattle.stream.specs.Read.{place, rowDue}
-use Rattle.stream.proofs.Records.{place-more}
+use Rattle.stream.specs.Kind.{rowKind, wholeOf, rowsOf}
+use Rattle.stream.specs.Read.{rowDue}
+use Rattle.stream.proofs.Records.{place-rows}
 use Rattle.stream.proofs.reader.check_rows.Statement.{statement}
 use Rattle.stream.proofs.reader.check_rows.Tie as tie
 
 abbrev Inv-loop : tie.InvT-loop
 Inv-loop s f n at rows to₀ j₀ to j =
-    (j ≤ rows) × (firstOf (rowDue s f n at) j ≡ Fine) × (to ≡ place s at j)
-    × (to ≤ at + 256 * j)
+    (j ≤ rows) × (firstOf (rowDue s f n at) j ≡ Fine) × (to ≡ at + wholeOf rowKind * j)
 
 abbrev μ-loop : tie.MeasureT-loop
 μ-loop s f n at rows to₀ j₀ to j = rows - j
@@ -26,7 +25,7 @@ add-rows : tie.Need-add-rows Inv-loop μ-loop
 add-rows c = search needs
 
 loop-holds : tie.Need-loop-holds Inv-loop μ-loop
-unfolding firstOf place
+unfolding firstOf
 loop-holds c = search needs
 
 check-row-requires : tie.Need-check-row-requires Inv-loop μ-loop
@@ -42,15 +41,19 @@ returns c =
     let check-row = c .before .before .before .check-row in
     let l = c .before .before .before .before .before .loop in
     let a = c .before .before .before .before .before .before .before .args in
-    let found = rw (l .inv .2) at (check-row .ensures) in
+    let there = place-rows (a .s .now) (a .f) (a .n) (a .at) (l .j) (l .inv .1) (l .j) (omega arith) in
+    let found = rw (l .inv .2, ← there) at (check-row .ensures) in
     let g = rowDue (a .s .now) (a .f) (a .n) (a .at) in
     first-stop g (rowsOf (a .f)) (l .j) (loop-test .taken) (l .inv .1) found (c .before .outcome .given .1)
 
 enum-told : tie.Need-enum-told Inv-loop μ-loop
 enum-told c = search needs
 
-after-requires : tie.Need-after-requires Inv-loop μ-loop
-after-requires c κs = search needs
+whole-of-requires : tie.Need-whole-of-requires Inv-loop μ-loop
+whole-of-requires c κs = search needs
+
+add-to : tie.Need-add-to Inv-loop μ-loop
+add-to c = search needs
 
 add-j : tie.Need-add-j Inv-loop μ-loop
 add-j c = search needs
@@ -64,11 +67,12 @@ loop-again c =
     let check-row = c .before .before .before .check-row in
     let l = c .before .before .before .before .before .loop in
     let a = c .before .before .before .before .before .before .before .args in
-    let found = rw (l .inv .2) at (check-row .ensures) in
-    let next = rw (l .inv .2) at (c .after .ensures .0) in
+    let there = place-rows (a .s .now) (a .f) (a .n) (a .at) (l .j) (l .inv .1) (l .j) (omega arith) in
+    let found = rw (l .inv .2, ← there) at (check-row .ensures) in
+    let w = c .whole-of .ensures .0 in
     let passed = first-more (rowDue (a .s .now) (a .f) (a .n) (a .at)) (l .j) (l .inv .1) found
     (c .before .enum-told .given .1) in
-    (omega arith, passed, next ∙ sym (place-more (a .s .now) (a .at) (l .j)), omega arith)
+    (omega arith, passed, omega arith)
 
 returns-2 : tie.Need-returns-2 Inv-loop μ-loop
 returns-2 c =
@@ -87,7 +91,8 @@ check-rows-spec =
     enum-known-outcome
     returns
     enum-told
-    after-requires
+    whole-of-requires
+    add-to
     add-j
     loop-less
     loop-again

@@ -1,31 +1,31 @@
 -- `stream::reader::clients_in` meets its contract: the loop's invariant is the array whose first i clients
 -- are filled in.
 -- Assumes nothing.
-use mathlib.Core.Path.{_≡_, refl, sym, _∙_}
+use mathlib.Core.Path.{_≡_}
 use Prim.Native.Nat.{_+_, _-_, _*_, _≤_}
 use native.Mathlib.Omega.{arith}
 use borrow.Author.Needs.{needs}
 use Rattle.records.specs.Pieces.{padded}
 use Rattle.records.proofs.Lists.{padded-none, padded-more}
 use Rattle.plan.specs.Plan.{noClient}
-use Rattle.stream.specs.Read.{place, clientIn}
-use Rattle.stream.proofs.Records.{place-more, clients-fine}
+use Rattle.stream.specs.Kind.{clientKind, wholeOf}
+use Rattle.stream.specs.Read.{clientIn}
+use Rattle.stream.proofs.Records.{clients-fine, place-clients}
 use Rattle.stream.proofs.reader.clients_in.Statement.{statement}
 use Rattle.stream.proofs.reader.clients_in.Tie as tie
 
 abbrev Inv-loop : tie.InvT-loop
 Inv-loop s at n clients₀ to₀ i₀ clients to i =
     (i ≤ n) × (clients ≡ padded (clientIn s at) i 8 noClient)
-    × (to ≡ place s at i) × (to ≤ at + 256 * i)
+    × (to ≡ at + wholeOf clientKind * i)
 
 abbrev μ-loop : tie.MeasureT-loop
 μ-loop s at n clients₀ to₀ i₀ clients to i = n - i
 
 loop-holds : tie.Need-loop-holds Inv-loop μ-loop
-unfolding place
 loop-holds c =
     let a = c .before .args in
-    (omega arith, padded-none (clientIn (a .s .now) (a .at)) 8 noClient, refl, omega arith)
+    (omega arith, padded-none (clientIn (a .s .now) (a .at)) 8 noClient, omega arith)
 
 client-at-requires : tie.Need-client-at-requires Inv-loop μ-loop
 client-at-requires c κs =
@@ -33,7 +33,8 @@ client-at-requires c κs =
     let a = c .before .before .before .args in
     let l = c .before .loop in
     let client = clients-fine (a .s .now) (a .at) (a .n) (pre .2) (l .i) (c .loop-test .taken) in
-    rw (l .inv .2) (client .whole .room)
+    let there = place-clients (a .s .now) (a .at) (a .n) (pre .2) (l .i) (omega arith) in
+    rw (l .inv .2, ← there) (client .whole .room)
 
 mul-clients : tie.Need-mul-clients Inv-loop μ-loop
 mul-clients c = search needs
@@ -41,8 +42,11 @@ mul-clients c = search needs
 array-set-from-clients : tie.Need-array-set-from-clients Inv-loop μ-loop
 array-set-from-clients c = search needs
 
-after-requires : tie.Need-after-requires Inv-loop μ-loop
-after-requires c κs = search needs
+whole-of-requires : tie.Need-whole-of-requires Inv-loop μ-loop
+whole-of-requires c κs = search needs
+
+add-to : tie.Need-add-to Inv-loop μ-loop
+add-to c = search needs
 
 add-i : tie.Need-add-i Inv-loop μ-loop
 add-i c = search needs
@@ -53,12 +57,14 @@ loop-less c = search needs
 loop-again : tie.Need-loop-again Inv-loop μ-loop
 unfolding clientIn
 loop-again c =
+    let pre = c .before .before .before .before .before .pre in
     let a = c .before .before .before .before .before .args in
     let l = c .before .before .before .loop in
-    let client = rw (l .inv .2) at (c .before .client-at .ensures) in
-    let next = rw (l .inv .2) at (c .after .ensures .0) in
+    let there = place-clients (a .s .now) (a .at) (a .n) (pre .2) (l .i) (omega arith) in
+    let client = rw (l .inv .2, ← there) at (c .before .client-at .ensures) in
+    let w = c .whole-of .ensures .0 in
     let more = padded-more (clientIn (a .s .now) (a .at)) (l .i) 8 noClient (omega arith) in
-    (omega arith, rw (l .inv .1, client) more, next ∙ sym (place-more (a .s .now) (a .at) (l .i)), omega arith)
+    (omega arith, rw (l .inv .1, client) more, omega arith)
 
 returns : tie.Need-returns Inv-loop μ-loop
 returns c =
@@ -75,7 +81,8 @@ clients-in-spec =
     client-at-requires
     mul-clients
     array-set-from-clients
-    after-requires
+    whole-of-requires
+    add-to
     add-i
     loop-less
     loop-again

@@ -1,72 +1,73 @@
--- `stream::reader::owners_in` meets its contract: the loop's invariant is the array whose first x owners are
--- filled in. Rows are of one length, so slot x stands in the row that x / 8 rows precede.
+-- `stream::reader::owners_in` meets its contract: the loop's invariant is the array whose first j rows are filled in.
+-- A slot below f stands in a row that passed, so its byte lies in the stream.
 -- Assumes nothing.
 use mathlib.Core.Path.{_≡_}
-use Prim.Native.Nat.{_-_, _/_, _≤_}
+use mathlib.Core.List.{List}
+use Prim.Native.Nat.{ℕ, _+_, _-_, _*_, _/_, _%_, _≤_, _<_}
 use native.Mathlib.Omega.{arith}
+use lib.ListN.{length}
 use borrow.Author.Needs.{needs}
+use Rattle.records.specs.First.{firstOf}
 use Rattle.records.specs.Pieces.{padded}
-use Rattle.records.proofs.Lists.{padded-none, padded-more}
+use Rattle.records.specs.declared.Outcome.the-variants.{Fine}
+use Rattle.records.proofs.Lists.{padded-none}
 use Rattle.stream.specs.Kind.{rowsOf}
-use Rattle.stream.specs.Read.{ownerIn}
+use Rattle.stream.specs.Read.{place, rowDue, ownerIn}
 use Rattle.stream.proofs.Records.{rows-fine, place-rows}
 use Rattle.stream.proofs.reader.owners_in.Statement.{statement}
 use Rattle.stream.proofs.reader.owners_in.Tie as tie
 
+-- the first k bytes of row j
+row-room : (s : List ℕ) (f n at j k : ℕ) → firstOf (rowDue s f n at) (rowsOf f) ≡ Fine → 8 * j + k ≤ f → k ≤ 8
+    → (t : ℕ) → t < k → place s at j + (1 + t) < length s
+row-room s f n at j k h l m t b = omega (arith, rows-fine s f n at (rowsOf f) h j (omega arith) .whole .room)
+
 abbrev Inv-loop : tie.InvT-loop
-Inv-loop s at f n owners₀ x₀ owners x = (x ≤ f) × (owners ≡ padded (ownerIn s at) x 64 0)
+Inv-loop s at f n full owners₀ j₀ owners j = (j ≤ full) × (owners ≡ padded (ownerIn s at) (8 * j) 64 0)
 
 abbrev μ-loop : tie.MeasureT-loop
-μ-loop s at f n owners₀ x₀ owners x = f - x
+μ-loop s at f n full owners₀ j₀ owners j = full - j
 
 loop-holds : tie.Need-loop-holds Inv-loop μ-loop
 loop-holds c = (omega arith, padded-none (ownerIn (c .before .args .s .now) (c .before .args .at)) 64 0)
 
-rows-length-requires : tie.Need-rows-length-requires Inv-loop μ-loop
-rows-length-requires c κs = search needs
+put-owners-requires : tie.Need-put-owners-requires Inv-loop μ-loop
+put-owners-requires c κs =
+    let pre = c .before .before .before .before .pre in
+    let a = c .before .before .before .before .args in
+    let l = c .before .before .loop in
+    let s = a .s .now in
+    let there = place-rows s (a .f) (a .n) (a .at) (rowsOf (a .f)) (pre .2) (l .j) (omega arith) in
+    let room = row-room s (a .f) (a .n) (a .at) (l .j) 8 (pre .2) (omega arith) (omega arith) in
+    ((omega arith, omega arith, omega arith, there), (room, l .inv .1))
 
-add-owners : tie.Need-add-owners Inv-loop μ-loop
-add-owners c = search needs
-
-add-owners-2 : tie.Need-add-owners-2 Inv-loop μ-loop
-add-owners-2 c = search needs
-
-add-owners-3 : tie.Need-add-owners-3 Inv-loop μ-loop
-add-owners-3 c = search needs
-
-shared-slice-read-owners : tie.Need-shared-slice-read-owners Inv-loop μ-loop
-shared-slice-read-owners c =
-    let pre = c .before .before .before .before .before .pre in
-    let loop = c .before .before .before .loop in
-    let a = c .before .before .before .before .before .args in
-    let x = loop .x in
-    let there = place-rows (a .s .now) (a .f) (a .n) (a .at) (rowsOf (a .f)) (pre .2) (x / 8) (omega arith) in
-    let row = rows-fine (a .s .now) (a .f) (a .n) (a .at) (rowsOf (a .f)) (pre .2) (x / 8) (omega arith) in
-    omega (arith, row .whole .room)
-
-array-write-owners : tie.Need-array-write-owners Inv-loop μ-loop
-array-write-owners c = search needs
-
-add-x : tie.Need-add-x Inv-loop μ-loop
-add-x c = search needs
+add-j : tie.Need-add-j Inv-loop μ-loop
+add-j c = search needs
 
 loop-less : tie.Need-loop-less Inv-loop μ-loop
 loop-less c = search needs
 
 loop-again : tie.Need-loop-again Inv-loop μ-loop
-unfolding ownerIn
 loop-again c =
-    let pre = c .before .before .before .before .before .pre in
-    let a = c .before .before .before .before .before .args in
     let l = c .before .before .before .loop in
-    let there = place-rows (a .s .now) (a .f) (a .n) (a .at) (rowsOf (a .f)) (pre .2) (l .x / 8) (omega arith) in
-    let more = padded-more (ownerIn (a .s .now) (a .at)) (l .x) 64 0 (omega arith) in
-    (omega arith, rw (l .inv .1, c .before .rows-length .ensures, ← there) more)
+    let e : 8 * (l .j + 1) ≡ 8 * l .j + 8 = omega arith in (omega arith, rw e (c .put-owners .ensures))
+
+put-owners-requires-2 : tie.Need-put-owners-requires-2 Inv-loop μ-loop
+put-owners-requires-2 c κs =
+    let pre = c .before .before .before .before .pre in
+    let a = c .before .before .before .before .args in
+    let l = c .before .before .loop in
+    let s = a .s .now in
+    let f = a .f in
+    let e : l .j ≡ f / 8 = omega arith in
+    let there = place-rows s f (a .n) (a .at) (rowsOf f) (pre .2) (f / 8) (omega arith) in
+    let room = row-room s f (a .n) (a .at) (f / 8) (f % 8) (pre .2) (omega arith) (omega arith) in
+    ((omega arith, omega arith, omega arith, there), (room, rw e at (l .inv .1)))
 
 returns : tie.Need-returns Inv-loop μ-loop
 returns c =
-    let args = c .before .before .before .args in
-    let e : c .before .loop .x ≡ args .f = omega arith in rw e at (c .before .loop .inv .1)
+    let a = c .before .before .before .before .before .args in
+    let e : 8 * (a .f / 8) + a .f % 8 ≡ a .f = omega arith in rw e at (c .put-owners2 .ensures)
 
 pub owners-in-spec : {M : Type 1} → statement M
 owners-in-spec =
@@ -75,13 +76,9 @@ owners-in-spec =
     Inv-loop
     μ-loop
     loop-holds
-    rows-length-requires
-    add-owners
-    add-owners-2
-    add-owners-3
-    shared-slice-read-owners
-    array-write-owners
-    add-x
+    put-owners-requires
+    add-j
     loop-less
     loop-again
+    put-owners-requires-2
     returns)

@@ -1,10 +1,11 @@
 -- `stream::reader::plan_at` meets its contract: a stream that passes has its clients and its rows where they
 -- are looked for.
 -- Assumes nothing.
+use mathlib.Core.Path.{sym, _∙_}
 use native.Mathlib.Omega.{arith}
 use borrow.Author.Needs.{needs}
 use Rattle.stream.specs.Read.{planOf}
-use Rattle.stream.proofs.Records.{read-fine}
+use Rattle.stream.proofs.Records.{read-fine, to-clients, to-rows}
 use Rattle.stream.proofs.reader.plan_at.Statement.{statement}
 use Rattle.stream.proofs.reader.plan_at.Tie as tie
 
@@ -20,47 +21,51 @@ shared-slice-read-wide-2 c = omega (arith, read-fine _ (c .before .before .befor
 wide-requires-2 : tie.Need-wide-requires-2
 wide-requires-2 c κs = search needs
 
-after-requires : tie.Need-after-requires
-after-requires c κs = search needs
+whole-of-requires : tie.Need-whole-of-requires
+whole-of-requires c κs = search needs
 
 clients-in-requires : tie.Need-clients-in-requires
 clients-in-requires c κs =
     let pre = c .before .before .before .before .before .before .pre in
     let s = read-fine _ pre in
-    (omega arith, omega (arith, s .head), rw (c .after .ensures .0, c .before .wide2 .ensures .0) (s .rest .clients))
+    let at = c .whole-of .ensures .0 ∙ sym (to-clients _ s) in
+    (omega arith, omega (arith, s .head), rw (at, c .before .wide2 .ensures .0) (s .rest .clients))
 
-place-requires : tie.Need-place-requires
-place-requires c κs = (
-  omega arith,
-  omega (
-    arith,
-    read-fine _
-        (c .before .before .before .before .before .before .before .pre) .head,
-  ),
-)
+clients-length-requires : tie.Need-clients-length-requires
+clients-length-requires c κs =
+    let pre = c .before .before .before .before .before .before .before .pre in
+    omega (arith, read-fine _ pre .head)
+
+add-owners-in : tie.Need-add-owners-in
+add-owners-in c = search needs
 
 owners-in-requires : tie.Need-owners-in-requires
 owners-in-requires c κs =
     let pre = c .before .before .before .before .before .before .before .before .pre in
     let wide = c .before .before .before .before .before .wide in
     let wide2 = c .before .before .before .wide2 in
-    let after = c .before .before .after in
+    let whole-of = c .before .before .whole-of in
     let s = read-fine _ pre in
-    let at = rw (after .ensures .0, wide2 .ensures .0) at (c .place .ensures .0) in
-    (omega (arith, s .head), omega (arith, s .head), rw (at, wide .ensures .0, wide2 .ensures .0) (s .rest .rows))
+    let f = wide .ensures .0 in
+    let n = wide2 .ensures .0 in
+    let at = whole-of .ensures .0 in
+    let length = c .clients-length .ensures in
+    (omega (arith, s .head), omega (arith, s .head), rw (at, length, f, n, ← to-rows _ s) (s .rest .rows))
 
 returns : tie.Need-returns
 unfolding planOf
 returns c =
+    let pre = c .before .before .before .before .before .before .before .before .before .pre in
     let wide = c .before .before .before .before .before .before .wide in
     let wide2 = c .before .before .before .before .wide2 in
-    let after = c .before .before .before .after in
+    let whole-of = c .before .before .before .whole-of in
     let clients-in = c .before .before .clients-in in
-    let rows = c .before .place .ensures .0 in
-    let at = after .ensures .0 in
+    let s = read-fine _ pre in
+    let at = whole-of .ensures .0 in
+    let length = c .before .clients-length .ensures in
     let f = wide .ensures .0 in
     let n = wide2 .ensures .0 in
-    rw (c .owners-in .ensures, clients-in .ensures, rows, at, f, n)
+    rw (c .owners-in .ensures, clients-in .ensures, length, at, f, n, to-rows _ s, to-clients _ s)
 
 pub plan-at-spec : {M : Type 1} → statement M
 plan-at-spec =
@@ -70,8 +75,9 @@ plan-at-spec =
     wide-requires
     shared-slice-read-wide-2
     wide-requires-2
-    after-requires
+    whole-of-requires
     clients-in-requires
-    place-requires
+    clients-length-requires
+    add-owners-in
     owners-in-requires
     returns)

@@ -1,41 +1,54 @@
 -- `stream::writer::put_slots` meets its contract: the loop's invariant is that the first t bytes are put.
 -- Assumes nothing.
 use mathlib.Core.Path.{_≡_}
-use Prim.Native.Nat.{_-_, _≤_}
+use mathlib.Core.List.{List}
+use Prim.Native.Nat.{ℕ, _+_, _-_, _*_, _≤_}
 use native.Mathlib.Omega.{arith}
+use lib.Dec.{ltb}
+use lib.ListN.{getD}
 use borrow.Author.Needs.{needs}
+use Rattle.records.specs.First.{pick}
 use Rattle.records.specs.Pieces.{firsts}
 use Rattle.records.specs.Put.{Put}
 use Rattle.records.proofs.Lists.{length-firsts}
 use Rattle.records.proofs.Puts.{none, then-one, put-length}
-use Rattle.stream.specs.Write.{rowByte}
+use Rattle.stream.specs.Write.{slotByte, rowByte}
 use Rattle.stream.proofs.writer.put_slots.Statement.{statement}
 use Rattle.stream.proofs.writer.put_slots.Tie as tie
 
+-- rowByte of a plan with this f and these owners
+abbrev byte : ℕ → List ℕ → ℕ → ℕ → ℕ
+byte f owners j t = pick (ltb (8 * j + t) f) (getD owners (8 * j + t) 0) 255
+
 abbrev Inv-loop : tie.InvT-loop
-Inv-loop out₀ at plan j to₀ t₀ out to t = (t ≤ 8) × Put out₀ at (firsts (rowByte plan j) t) out to
+Inv-loop out₀ at j f owners to₀ t₀ out to t = (t ≤ 8) × Put out₀ at (firsts (byte f owners j) t) out to
 
 abbrev μ-loop : tie.MeasureT-loop
-μ-loop out₀ at plan j to₀ t₀ out to t = 8 - t
+μ-loop out₀ at j f owners to₀ t₀ out to t = 8 - t
 
 loop-holds : tie.Need-loop-holds Inv-loop μ-loop
 unfolding firsts
-loop-holds c = (omega arith, none (c .before .args .out .now) (c .before .args .at))
+loop-holds c =
+    let args = c .before .before .args in
+    (omega arith, none (args .out .now) (args .at))
 
-mul-slot-byte : tie.Need-mul-slot-byte Inv-loop μ-loop
-mul-slot-byte c = search needs
+mul-x : tie.Need-mul-x Inv-loop μ-loop
+mul-x c = search needs
 
-add-slot-byte : tie.Need-add-slot-byte Inv-loop μ-loop
-add-slot-byte c = search needs
+add-x : tie.Need-add-x Inv-loop μ-loop
+add-x c = search needs
+
+array-read-slot-byte : tie.Need-array-read-slot-byte Inv-loop μ-loop
+array-read-slot-byte c = search needs
 
 slot-byte-requires : tie.Need-slot-byte-requires Inv-loop μ-loop
 slot-byte-requires c κs = search needs
 
 put-byte-requires : tie.Need-put-byte-requires Inv-loop μ-loop
 put-byte-requires c κs =
-    let args = c .before .before .before .before .before .args in
+    let args = c .before .before .before .before .before .before .args in
     let l = c .before .before .before .loop in
-    let n = length-firsts (rowByte (args .plan) (args .j)) (l .t) in
+    let n = length-firsts (byte (args .plan .f) (args .plan .owners) (args .j)) (l .t) in
     omega (arith, l .inv .1 .place, put-length (l .inv .1))
 
 add-t : tie.Need-add-t Inv-loop μ-loop
@@ -45,19 +58,19 @@ loop-less : tie.Need-loop-less Inv-loop μ-loop
 loop-less c = search needs
 
 loop-again : tie.Need-loop-again Inv-loop μ-loop
-unfolding rowByte
 loop-again c =
     let slot-byte = c .before .before .before .slot-byte in
     let put-byte = c .before .before .put-byte in
-    let a = c .before .before .before .before .before .before .before .before .args in
+    let a = c .before .before .before .before .before .before .before .before .before .args in
     let l = c .before .before .before .before .before .before .loop in
     let put = rw (slot-byte .ensures) at (put-byte .ensures) in
-    (omega arith, then-one (rowByte (a .plan) (a .j)) (l .t) (l .inv .1) put)
+    (omega arith, then-one (byte (a .plan .f) (a .plan .owners) (a .j)) (l .t) (l .inv .1) put)
 
 same-length : tie.Need-same-length Inv-loop μ-loop
 same-length c = put-length (c .before .loop .inv .1)
 
 returns : tie.Need-returns Inv-loop μ-loop
+unfolding rowByte slotByte
 returns c = let e : c .before .loop .t ≡ 8 = omega arith in rw e at (c .before .loop .inv .1)
 
 pub put-slots-spec : {M : Type 1} → statement M
@@ -67,8 +80,9 @@ put-slots-spec =
     Inv-loop
     μ-loop
     loop-holds
-    mul-slot-byte
-    add-slot-byte
+    mul-x
+    add-x
+    array-read-slot-byte
     slot-byte-requires
     put-byte-requires
     add-t
