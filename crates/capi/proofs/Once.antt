@@ -7,8 +7,6 @@ use Prim.Native.Nat.{ℕ}
 use Rattle.records.specs.Put.{Put}
 use Rattle.plan.specs.declared.Plan.{Plan}
 use Rattle.stream.specs.Read.{readOf}
-use Rattle.figures.specs.declared.Figures.{Figures}
-use Rattle.figures.specs.declared.Wait.{Wait}
 use Rattle.figures.specs.Figures.{figuresNumber, IsFigures, waitNumber, IsWaitFor}
 use Rattle.figures.proofs.Once.{figures-once, waits-once}
 use Rattle.judge.specs.Judge.{judgedNumber, IsJudged, verdictNumber, IsVerdictOf}

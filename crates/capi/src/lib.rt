@@ -5,6 +5,7 @@
 pub mod inner; // inner.rt
 
 use inner::first_number;
+use plan::Plan;
 use text::PAGE;
 ghost use mathlib.Core.List.{_∷_, []};
 ghost use Rattle.plan.specs.Plan.{defaultWaiting};
@@ -68,11 +69,7 @@ pub extern "C" fn gwelathur_default_wait(s: &[u8], client: usize, wait: &mut usi
     ensures { λ r. ⌜ Told (λ plan. IsWaitFor plan client defaultWaiting) waitNumber waitNumbers (now (s .entry)) r
         (now (wait .exit) ∷ []) ⌝ }
 {
-    let reading = stream::read(s);
-    let outcome = reading.outcome;
-    let plan = reading.plan;
-    let answer = figures::default_wait(plan, client);
-    first_number(outcome, inner::tell_wait(answer, wait))
+    gwelathur_wait(s, client, Plan::DEFAULT_WAITING, wait)
 }
 
 // Judges a plan: the first client that is not ok, its verdict and, if late, its first stretch.
