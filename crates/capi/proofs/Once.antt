@@ -28,8 +28,9 @@ read-told-once s h h′ = (once _ _ _ (h .returned) (h′ .returned), once _ _ _
 
 -- where what is told is an answer of which there is one
 told-once : {A : Type 0} (Is : Plan → A → Type 0) (number : A → ℕ) (numbers : A → List ℕ)
-    → ((plan : Plan) (a a′ : A) → Is plan a → Is plan a′ → a ≡ a′) → (s : List ℕ) {r r′ : ℕ} {lent lent′ : List ℕ}
-    → Told Is number numbers s r lent → Told Is number numbers s r′ lent′ → (r ≡ r′) × (lent ≡ lent′)
+    → ((plan : Plan) (a a′ : A) → Is plan a → Is plan a′ → a ≡ a′)
+    → (s : List ℕ) {r r′ : ℕ} {lent lent′ : List ℕ} → Told Is number numbers s r lent
+    → Told Is number numbers s r′ lent′ → (r ≡ r′) × (lent ≡ lent′)
 told-once Is number numbers one s h h′ =
     let e = one (readOf s .plan) (h .answer) (h′ .answer) (h .is) (h′ .is) in (
       h .returned ∙ ap (λ a. firstNumber (readOf s .outcome) (number a)) e ∙ sym (h′ .returned),
