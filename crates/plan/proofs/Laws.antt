@@ -3,16 +3,18 @@
 -- Assumes nothing.
 use mathlib.Core.Path.{_≡_, refl, ap, sym}
 use mathlib.Core.List.{List}
-use mathlib.Core.Logic.{_≢_}
-use Prim.Native.Nat.{ℕ, _+_, _%_, _≤_, _<_}
+use mathlib.Core.Logic.{_≢_, ⊎-elim}
+use Prim.Native.Nat.{ℕ, _+_, _%_, _≤_, _<_, max}
 use native.Mathlib.Nat.{add-mod-right, mod-lt}
+use native.Mathlib.Omega.{arith}
 use lib.Dec.{eqb}
 use lib.ListN.{getD}
-use borrow.Author.Tests.{leb-true, le-leb, eq-eqb, ne-eqb}
+use borrow.Author.Tests.{leb-true, le-leb, lt-leb, eq-eqb, ne-eqb}
 use Rattle.records.specs.Refusal as refusal
+use Rattle.records.specs.First.{orElse}
 use Rattle.records.specs.declared.Outcome.the-variants.{Fine}
 use Rattle.records.proofs.Checks.{between-true, both-fine, need-fine, range-fine, range-pass, first-fine, first-all}
-use Rattle.records.proofs.Checks.{first-same, one-or-none}
+use Rattle.records.proofs.Checks.{first-same, one-or-none, below-or-not}
 use Rattle.records.proofs.Lists.{get-padded, padded-same}
 use Rattle.plan.specs.declared.Client.{Client}
 use Rattle.plan.specs.declared.Plan.{Plan}
@@ -46,6 +48,20 @@ owner-fine owner n offset h = leb-true owner n (need-fine _ _ _ h)
 pub owner-pass : (owner n offset : ℕ) → owner ≤ n → ownerCheck owner n offset ≡ Fine
 unfolding ownerCheck
 owner-pass owner n offset h = simp (le-leb owner n h)
+
+-- of two owners checked at one place, the higher decides
+pub owner-higher : (one other n offset : ℕ)
+    → orElse (ownerCheck one n offset) (ownerCheck other n offset) ≡ ownerCheck (max one other) n offset
+unfolding ownerCheck
+owner-higher one other n offset =
+    ⊎-elim
+    (λ (h : n < one). simp (lt-leb one n h, lt-leb (max one other) n (omega arith)))
+    (λ (h : one ≤ n).
+    ⊎-elim
+    (λ (k : n < other). simp (le-leb one n h, lt-leb other n k, lt-leb (max one other) n (omega arith)))
+    (λ (k : other ≤ n). simp (le-leb one n h, le-leb other n k, le-leb (max one other) n (omega arith)))
+    (below-or-not n other))
+    (below-or-not n one)
 
 -- ---- the whole: a plan passes exactly when it is in bounds
 

@@ -1,6 +1,6 @@
 -- Laws of checks in order: what a check that passes says, and which refusal comes first.
 -- Assumes nothing.
-use mathlib.Core.Path.{_≡_, refl, sym, _∙_}
+use mathlib.Core.Path.{_≡_, refl, ap, sym, _∙_}
 use mathlib.Core.Bool.{Bool, true, false}
 use mathlib.Core.List.{List}
 use mathlib.Core.Logic.{⊎-elim, _⊎_, inl, inr}
@@ -8,9 +8,10 @@ use Prim.Native.Nat.{ℕ, zero, suc, _+_, _-_, _≤_, _<_}
 use native.Mathlib.Nat.{eq-or-lt-of-le, le-of-suc-le-suc}
 use native.Mathlib.Numerals.{add-one}
 use native.Mathlib.Omega.{arith}
-use lib.Dec.{ltb, leb}
+use lib.Dec.{ltb, leb, eqb}
 use lib.ListN.{length}
 use borrow.Author.Tests.{ltb-true, ltb-false, leb-true, eqb-true, lt-ltb, le-ltb, le-leb, lt-leb, eq-eqb, ne-eqb}
+use Rattle.records.specs.Refusal as refusal
 use Rattle.records.specs.First.{pick, between, need, rangeCheck, orElse, firstOf, numberOf, RefusedBy}
 use Rattle.records.specs.Record.{recordCheck, overCheck}
 use Rattle.records.specs.declared.Outcome.{Outcome}
@@ -151,6 +152,20 @@ pub record-pass : (s : List ℕ) (at class body : ℕ) → class ≡ 0 → at + 
 unfolding recordCheck
 record-pass s at class body e h =
     simp (lt-ltb at (length s) (omega arith), eq-eqb class 0 e, lt-ltb body (length s - at) (omega arith))
+
+body-by : (b : Bool) (x y z : Outcome) (k offset : ℕ) → (b ≡ true → y ≡ z)
+    → orElse x (orElse (need b k offset) y) ≡ orElse x (orElse (need b k offset) z)
+body-by true x y z k offset h = rw (h refl)
+body-by false x y z k offset h = refl
+
+-- the body matters only where the kind is due
+pub record-body : (s : List ℕ) (at class one other : ℕ) → (class ≡ 0 → one ≡ other)
+    → recordCheck s at class one ≡ recordCheck s at class other
+unfolding recordCheck
+record-body s at class one other h =
+    let kind = need (ltb at (length s)) refusal.ended (length s) in
+    let body : ℕ → Outcome = λ n. need (ltb n (length s - at)) refusal.ended at in
+    body-by (eqb class 0) kind (body one) (body other) class at (λ e. ap body (h (eqb-true class 0 e)))
 
 pub over-fine : (s : List ℕ) (at : ℕ) → overCheck s at ≡ Fine → length s ≤ at
 unfolding overCheck

@@ -3,21 +3,25 @@
 use mathlib.Core.Path.{_≡_, refl, ap, sym, _∙_}
 use mathlib.Core.Bool.{Bool, true, false}
 use mathlib.Core.List.{List}
-use Prim.Native.Nat.{ℕ, zero, suc, _+_, _*_, _≤_, _<_}
+use Prim.Native.Nat.{ℕ, zero, suc, _+_, _*_, _≤_, _<_, max}
+use native.Mathlib.Numerals.{add-one}
 use native.Mathlib.Omega.{arith}
 use lib.Dec.{eqb}
 use lib.ListN.{length, getD}
-use borrow.Author.Tests.{eqb-true}
+use borrow.Author.Tests.{eqb-true, lt-ltb}
 use Rattle.records.specs.Refusal as refusal
 use Rattle.records.specs.First.{pick, firstOf}
+use Rattle.records.specs.Record.{recordCheck}
 use Rattle.records.specs.declared.Outcome.{Outcome}
 use Rattle.records.specs.declared.Outcome.the-variants.{Fine}
-use Rattle.records.proofs.Checks.{both-fine, need-fine, range-fine, first-fine, record-fine, record-pass, over-fine}
-use Rattle.plan.proofs.Laws.{Required, client-fine}
+use Rattle.records.proofs.Checks.{both-fine, need-fine, range-fine, first-fine, first-same}
+use Rattle.records.proofs.Checks.{record-fine, record-pass, record-body, over-fine}
+use Rattle.plan.specs.Check.{ownerCheck}
+use Rattle.plan.proofs.Laws.{Required, client-fine, owner-higher}
 use Rattle.stream.specs.Kind.{headKind, clientKind, rowKind, endKind, bodyOf, wholeOf}
 use Rattle.stream.specs.Kind.{isReserved, classOf, rowsOf}
 use Rattle.stream.specs.Read.{fIn, nIn, after, place, dueCheck, headRead, clientAt, numberCheck, clientRead}
-use Rattle.stream.specs.Read.{clientDue, slotDue, rowRead, rowDue, endRead, toClients, toRows, toEnd}
+use Rattle.stream.specs.Read.{clientDue, slotCheck, slotDue, rowRead, rowDue, endRead, toClients, toRows, toEnd}
 use Rattle.stream.specs.Read.{restRead, readCheck}
 
 -- ---- a record where a kind is due
@@ -35,6 +39,13 @@ class-by false false h = absurd (omega arith)
 class-due : (due kind : ℕ) → classOf due kind ≡ 0 → kind ≡ due
 unfolding classOf
 class-due due kind h = eqb-true kind due (class-by (isReserved kind) (eqb kind due) h)
+
+-- a record's length matters only where its kind is the one due
+pub due-body : (s : List ℕ) (at due : ℕ) → recordCheck s at (classOf due (getD s at 0)) (bodyOf due) ≡ dueCheck s at due
+unfolding dueCheck
+due-body s at due =
+    let kind = getD s at 0 in
+    record-body s at (classOf due kind) (bodyOf due) (bodyOf kind) (λ e. ap bodyOf (sym (class-due due kind e)))
 
 pub due-fine : (s : List ℕ) (at due : ℕ) → dueCheck s at due ≡ Fine → Whole s at due
 unfolding dueCheck
@@ -90,6 +101,10 @@ head-fine s h =
 pub head-found : (s : List ℕ) {v : Outcome} → v ≡ headRead s → v ≡ Fine → HeadFine s
 head-found s e h = head-fine s (sym e ∙ h)
 
+-- where the clients begin
+pub to-clients : (s : List ℕ) → HeadFine s → toClients s ≡ wholeOf headKind
+to-clients s h = after-whole s 0 headKind (h .whole .found)
+
 -- a client's: its number is the next one, and its requirements pass
 pub record ClientFine (s : List ℕ) (at number : ℕ) : Type 0 where
   pub whole : Whole s at clientKind
@@ -127,6 +142,19 @@ place-clients s at n h i l =
 pub record RowFine (s : List ℕ) (f n at j : ℕ) : Type 0 where
   pub whole : Whole s at rowKind
   pub slots : firstOf (slotDue s f n at j) 8 ≡ Fine
+
+-- the owners of a row, checked one more: the highest so far decides
+pub owners-more : (g : ℕ → ℕ) (n at t highest : ℕ) {r : ℕ}
+    → firstOf (λ i. ownerCheck (g i) n at) t ≡ ownerCheck highest n at → r ≡ max highest (g t)
+    → firstOf (λ i. ownerCheck (g i) n at) (t + 1) ≡ ownerCheck r n at
+unfolding firstOf
+owners-more g n at t highest h e = rw (add-one, h, e) (owner-higher highest (g t) n at)
+
+-- a row with no place past f holds owners alone
+pub full-row : (s : List ℕ) (f n at j : ℕ) → 8 * j + 8 ≤ f
+    → firstOf (λ t. ownerCheck (getD s (at + (1 + t)) 0) n at) 8 ≡ firstOf (slotDue s f n at j) 8
+unfolding slotDue slotCheck
+full-row s f n at j h = first-same _ (slotDue s f n at j) 8 (λ t l. rw (lt-ltb (8 * j + t) f (omega arith)))
 
 pub row-read-fine : (s : List ℕ) (f n at j : ℕ) → rowRead s f n at j ≡ Fine → RowFine s f n at j
 unfolding rowRead
@@ -178,11 +206,8 @@ read-fine s h =
     let a = both-fine _ _ h in
     record { head = head-fine s (a .0); rest = rest-fine s (fIn s) (nIn s) (a .1) }
 
--- where its clients begin, and where its rows
-pub to-clients : (s : List ℕ) → ReadFine s → toClients s ≡ wholeOf headKind
-to-clients s z = after-whole s 0 headKind (z .head .whole .found)
-
+-- where its rows begin
 pub to-rows : (s : List ℕ) → ReadFine s → toRows s (nIn s) ≡ wholeOf headKind + wholeOf clientKind * nIn s
 to-rows s z =
     place-clients s (toClients s) (nIn s) (z .rest .clients) (nIn s) (omega arith)
-    ∙ ap (λ (k : ℕ). k + wholeOf clientKind * nIn s) (to-clients s z)
+    ∙ ap (λ (k : ℕ). k + wholeOf clientKind * nIn s) (to-clients s (z .head))

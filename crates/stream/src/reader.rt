@@ -12,33 +12,26 @@ use records::or_else;
 use records::refusal;
 use records::wide;
 ghost use mathlib.Core.Path.{_≡_};
-ghost use Prim.Native.Nat.{ℕ, _+_, _*_, _<_, _≤_};
-ghost use lib.ListN.{length};
+ghost use Prim.Native.Nat.{ℕ, _+_, _*_, _<_, _≤_, max};
+ghost use lib.ListN.{length, getD};
 ghost use Rattle.records.specs.First.{firstOf};
 ghost use Rattle.records.specs.Pieces.{padded};
 ghost use Rattle.records.specs.declared.Outcome.the-variants.{Fine};
 ghost use Rattle.plan.specs.Plan.{noClient};
-ghost use Rattle.stream.specs.Kind.{clientKind, rowKind, wholeOf, rowsOf};
-ghost use Rattle.stream.specs.Read.{after, place, dueCheck, headRead, clientAt, numberCheck, clientRead};
+ghost use Rattle.plan.specs.Check.{ownerCheck};
+ghost use Rattle.stream.specs.Kind.{headKind, clientKind, rowKind, wholeOf, rowsOf};
+ghost use Rattle.stream.specs.Read.{toClients, place, dueCheck, headRead, clientAt, numberCheck, clientRead};
 ghost use Rattle.stream.specs.Read.{clientDue, slotCheck, slotDue, rowRead, rowDue, endRead};
 ghost use Rattle.stream.specs.Read.{restRead, readCheck, clientIn, ownerIn, planOf};
 
-// The place after the record at a place; what is asked of places only keeps sums from wrapping.
-fn after(s: &[u8], at: usize) -> usize
-    requires { ⌜ at ≤ 65536 ⌝ }
-    ensures { λ r. ⌜ (r ≡ after (now (s .entry)) at) × (r ≤ at + 256) ⌝ }
-{
-    at + kind::whole_of(kind_at(s, at))
-}
-
 // ---- checks
 
-// A record where a kind is due: 1, 2, 3, 1.
+// A record where a kind is due: 1, 2, 3, 1. The body is looked at only where its kind is the one due.
 fn check_due(s: &[u8], at: usize, due: u8) -> Outcome
     ensures { λ r. ⌜ r ≡ dueCheck (now (s .entry)) at due ⌝ }
 {
-    let found = kind_at(s, at);
-    check_record(s, at, kind::class_of(due, found), kind::body_of(found))
+    let class = kind::class_of(due, kind_at(s, at));
+    check_record(s, at, class, kind::body_of(due))
 }
 
 // The record of f and n: 5, 6.
@@ -121,6 +114,28 @@ fn check_slot(f: usize, n: usize, x: usize, byte: u8, at: usize) -> Outcome
     Outcome::Fine
 }
 
+// The higher of two bytes.
+fn higher(one: u8, other: u8) -> u8
+    ensures { λ r. ⌜ r ≡ max one other ⌝ }
+{
+    if one < other { other } else { one }
+}
+
+// The eight bytes of a row that has no place past f: the highest decides.
+fn check_owners(s: &[u8], n: usize, at: usize) -> Outcome
+    requires { ⌜ at + wholeOf rowKind ≤ length (now s) ⌝ }
+    ensures { λ r. ⌜ r ≡ firstOf (λ t. ownerCheck (getD (now (s .entry)) (at + (1 + t)) 0) n at) 8 ⌝ }
+{
+    let mut highest = 0u8;
+    let mut t = 0;
+    while t < 8 {
+        let byte = s[at + (1 + t)];
+        highest = higher(highest, byte);
+        t += 1;
+    }
+    inner::check_owner(highest, n, at)
+}
+
 // The eight bytes of row j.
 fn check_slots(s: &[u8], f: usize, n: usize, at: usize, j: usize) -> Outcome
     requires { ⌜ (j < 8) × (at + wholeOf rowKind ≤ length (now s)) ⌝ }
@@ -146,6 +161,9 @@ fn check_row(s: &[u8], f: usize, n: usize, at: usize, j: usize) -> Outcome
     let due = check_due(s, at, kind::ROW);
     if let Outcome::Refused(number, offset) = due {
         return Outcome::Refused(number, offset);
+    }
+    if 8 * j + 8 <= f {
+        return check_owners(s, n, at);
     }
     check_slots(s, f, n, at, j)
 }
@@ -181,12 +199,12 @@ fn check_end(s: &[u8], at: usize) -> Outcome
     check_over(s, at + kind::whole_of(kind::END))
 }
 
-// All that follows the head.
+// All that follows a head that passes.
 fn check_rest(s: &[u8], f: usize, n: usize) -> Outcome
-    requires { ⌜ (f ≤ 64) × (n ≤ 8) ⌝ }
+    requires { ⌜ (f ≤ 64) × (n ≤ 8) × (toClients (now s) ≡ wholeOf headKind) ⌝ }
     ensures { λ r. ⌜ r ≡ restRead (now (s .entry)) f n ⌝ }
 {
-    let to_clients = after(s, 0);
+    let to_clients = kind::whole_of(kind::HEAD);
     let clients = check_clients(s, to_clients, n);
     if let Outcome::Refused(number, offset) = clients {
         return Outcome::Refused(number, offset);

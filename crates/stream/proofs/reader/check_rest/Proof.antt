@@ -1,7 +1,7 @@
 -- `stream::reader::check_rest` meets its contract: the clients decide where one is refused, then the rows,
 -- then the end.
 -- Assumes nothing.
-use mathlib.Core.Path.{_≡_}
+use mathlib.Core.Path.{_≡_, sym, _∙_}
 use native.Mathlib.Omega.{arith}
 use borrow.Author.Needs.{needs}
 use Rattle.records.specs.First.{firstOf}
@@ -13,8 +13,8 @@ use Rattle.stream.proofs.Records.{place-clients, place-rows}
 use Rattle.stream.proofs.reader.check_rest.Statement.{statement}
 use Rattle.stream.proofs.reader.check_rest.Tie as tie
 
-after-requires : tie.Need-after-requires
-after-requires c κs = search needs
+whole-of-requires : tie.Need-whole-of-requires
+whole-of-requires c κs = search needs
 
 check-clients-requires : tie.Need-check-clients-requires
 check-clients-requires c κs = search needs
@@ -25,9 +25,10 @@ enum-known-clients c = search needs
 returns : tie.Need-returns
 unfolding restRead
 returns c =
-    let after = c .before .before .before .before .after in
+    let pre = c .before .before .before .before .before .before .pre in
+    let to = c .before .before .before .before .whole-of .ensures .0 ∙ sym (pre .2) in
     let check-clients = c .before .before .before .check-clients in
-    stops _ (rw (after .ensures .0) at (check-clients .ensures)) (c .before .clients .given .1)
+    stops _ (rw to at (check-clients .ensures)) (c .before .clients .given .1)
 
 enum-told : tie.Need-enum-told
 enum-told c = search needs
@@ -49,14 +50,14 @@ unfolding restRead
 returns-2 c =
     let a = c .before .before .before .before .before .before .before .before .before .before .args in
     let s = a .s .now in
-    let after = c .before .before .before .before .before .before .before .before .after in
+    let to = c .before .before .before .before .before .before .before .before .whole-of .ensures .0 ∙ sym (c .before .before .before .before .before .before .before .before .before .before .pre .2) in
     let check-clients = c .before .before .before .before .before .before .before .check-clients in
     let enum-told = c .before .before .before .before .before .enum-told in
     let clients-length = c .before .before .before .before .clients-length in
     let check-rows = c .before .before .before .check-rows in
-    let clients = rw (after .ensures .0) at (check-clients .ensures) in
+    let clients = rw to at (check-clients .ensures) in
     let k = place-clients s (toClients s) (a .n) (rw clients at (enum-told .given .1)) (a .n) (omega arith) in
-    let rows = rw (clients-length .ensures, after .ensures .0, ← k) at (check-rows .ensures) in
+    let rows = rw (clients-length .ensures, to, ← k) at (check-rows .ensures) in
     let due = firstOf (rowDue s (a .f) (a .n) (toRows s (a .n))) (rowsOf (a .f)) in
     passes clients (enum-told .given .1) (stops {x = due} _ rows (c .before .rows .given .1))
 
@@ -80,27 +81,27 @@ unfolding restRead
 returns-3 c =
     let a = c .before .before .before .before .before .before .before .before .before .before .before .args in
     let s = a .s .now in
-    let after = c .before .before .before .before .before .before .before .before .before .after in
+    let to = c .before .before .before .before .before .before .before .before .before .whole-of .ensures .0 ∙ sym (c .before .before .before .before .before .before .before .before .before .before .before .pre .2) in
     let check-clients = c .before .before .before .before .before .before .before .before .check-clients in
     let enum-told = c .before .before .before .before .before .before .enum-told in
     let clients-length = c .before .before .before .before .before .clients-length in
     let check-rows = c .before .before .before .before .check-rows in
     let enum-told2 = c .before .before .enum-told2 in
-    let clients = rw (after .ensures .0) at (check-clients .ensures) in
+    let clients = rw to at (check-clients .ensures) in
     let k = place-clients s (toClients s) (a .n) (rw clients at (enum-told .given .1)) (a .n) (omega arith) in
-    let rows = rw (clients-length .ensures, after .ensures .0, ← k) at (check-rows .ensures) in
+    let rows = rw (clients-length .ensures, to, ← k) at (check-rows .ensures) in
     let due = firstOf (rowDue s (a .f) (a .n) (toRows s (a .n))) (rowsOf (a .f)) in
     let passed : due ≡ Fine = rw rows at (enum-told2 .given .1) in
     let m = place-rows s (a .f) (a .n) (toRows s (a .n)) (rowsOf (a .f)) passed (rowsOf (a .f)) (omega arith) in
     let length = c .before .rows-length .ensures in
-    let end = rw (clients-length .ensures, length, after .ensures .0, ← k, ← m) at (c .check-end .ensures) in
+    let end = rw (clients-length .ensures, length, to, ← k, ← m) at (c .check-end .ensures) in
     passes clients (enum-told .given .1) (passes {x = due} rows (enum-told2 .given .1) end)
 
 pub check-rest-spec : {M : Type 1} → statement M
 check-rest-spec =
     tie.close
     (tie.spec
-    after-requires
+    whole-of-requires
     check-clients-requires
     enum-known-clients
     returns

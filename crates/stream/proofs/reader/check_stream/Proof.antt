@@ -4,7 +4,7 @@ use native.Mathlib.Omega.{arith}
 use borrow.Author.Needs.{needs}
 use Rattle.records.proofs.Checks.{stops, passes}
 use Rattle.stream.specs.Read.{readCheck}
-use Rattle.stream.proofs.Records.{head-found}
+use Rattle.stream.proofs.Records.{head-found, to-clients}
 use Rattle.stream.proofs.reader.check_stream.Statement.{statement}
 use Rattle.stream.proofs.reader.check_stream.Tie as tie
 
@@ -45,7 +45,7 @@ check-rest-requires c κs =
     let check-head = c .before .before .before .before .before .before .check-head in
     let enum-told = c .before .before .before .before .enum-told in
     let head = head-found _ (check-head .ensures) (enum-told .given .1) in
-    (omega arith, omega arith)
+    (omega arith, omega arith, to-clients _ head)
 
 returns-2 : tie.Need-returns-2
 unfolding readCheck

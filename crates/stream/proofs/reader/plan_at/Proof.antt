@@ -28,7 +28,7 @@ clients-in-requires : tie.Need-clients-in-requires
 clients-in-requires c κs =
     let pre = c .before .before .before .before .before .before .pre in
     let s = read-fine _ pre in
-    let at = c .whole-of .ensures .0 ∙ sym (to-clients _ s) in
+    let at = c .whole-of .ensures .0 ∙ sym (to-clients _ (s .head)) in
     (omega arith, omega (arith, s .head), rw (at, c .before .wide2 .ensures .0) (s .rest .clients))
 
 clients-length-requires : tie.Need-clients-length-requires
@@ -65,7 +65,7 @@ returns c =
     let length = c .before .clients-length .ensures in
     let f = wide .ensures .0 in
     let n = wide2 .ensures .0 in
-    rw (c .owners-in .ensures, clients-in .ensures, length, at, f, n, to-rows _ s, to-clients _ s)
+    rw (c .owners-in .ensures, clients-in .ensures, length, at, f, n, to-rows _ s, to-clients _ (s .head))
 
 pub plan-at-spec : {M : Type 1} → statement M
 plan-at-spec =
