@@ -27,6 +27,14 @@
 #include <stddef.h>
 #include <stdint.h>
 
+/* An array of at least this many bytes, which C can say in a parameter and C++ cannot. */
+#ifdef __cplusplus
+#define GWELATHUR_BYTES(count) count
+extern "C" {
+#else
+#define GWELATHUR_BYTES(count) static count
+#endif
+
 /* The bytes of the longest plan file. */
 #define GWELATHUR_LONGEST 156
 
@@ -76,7 +84,8 @@ size_t gwelathur_verdict(const uint8_t *plan, size_t size, size_t client, size_t
  * and else not looked at. Refuses 1 to 11, 16. out: the first *length bytes are the file of the plan with that table,
  * all past them as before. *length: size, or 0 where no table is accepted; out is then untouched.
  */
-size_t gwelathur_search(const uint8_t *plan, size_t size, uint8_t out[static GWELATHUR_LONGEST], size_t *length);
+size_t gwelathur_search(const uint8_t *plan, size_t size, uint8_t out[GWELATHUR_BYTES(GWELATHUR_LONGEST)],
+                        size_t *length);
 
 /*
  * Reads a plan and writes it back. Refuses 1 to 11, and 12 where room is less than size. out: the first *length bytes
@@ -90,16 +99,21 @@ size_t gwelathur_write(const uint8_t *plan, size_t size, uint8_t *out, size_t ro
  * of them. answer: the client served, or 0, then how many requests of clients 1 to 8 were turned away; all 0 in a
  * refusal.
  */
-size_t gwelathur_step(const uint8_t *plan, size_t size, uint8_t record[static GWELATHUR_RECORD],
-                      const uint8_t *arrivals, size_t count, uint8_t answer[static GWELATHUR_RECORD]);
+size_t gwelathur_step(const uint8_t *plan, size_t size, uint8_t record[GWELATHUR_BYTES(GWELATHUR_RECORD)],
+                      const uint8_t *arrivals, size_t count, uint8_t answer[GWELATHUR_BYTES(GWELATHUR_RECORD)]);
 
 /*
  * The report of a plan as text, a refused read its one line. Returns the text's length: the text is the first bytes of
  * the page, all past it as before; no zero byte ends it.
  */
-size_t gwelathur_report(const uint8_t *plan, size_t size, uint8_t page[static GWELATHUR_PAGE]);
+size_t gwelathur_report(const uint8_t *plan, size_t size, uint8_t page[GWELATHUR_BYTES(GWELATHUR_PAGE)]);
 
 /* The homing listing of a plan as text, in the same way. */
-size_t gwelathur_homing(const uint8_t *plan, size_t size, uint8_t page[static GWELATHUR_PAGE]);
+size_t gwelathur_homing(const uint8_t *plan, size_t size, uint8_t page[GWELATHUR_BYTES(GWELATHUR_PAGE)]);
+
+#undef GWELATHUR_BYTES
+#ifdef __cplusplus
+}
+#endif
 
 #endif
