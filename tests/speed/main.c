@@ -41,6 +41,8 @@ static const struct operations ours = {speed_read,   speed_write, speed_check, s
 static const struct operations twins = {twin_read,   twin_write, twin_check, twin_figures, twin_judge,
                                         twin_search, twin_step,  twin_steps, twin_report};
 static const struct operations every_table = {.search = twin_every_table};
+static const struct operations one_walk = {.figures = twin_walk_figures, .judge = twin_walk_judge,
+                                           .search = twin_walk_search};
 
 // What an operation is given; the arrays of the plan begin on cache lines, so that no access is split by chance.
 struct input {
@@ -315,7 +317,15 @@ static int all_same(const struct input *in)
     return same("read", run_read, &twins, in) && same("write", run_write, &twins, in) &&
            same("check", run_check, &twins, in) && same("figures", run_figures, &twins, in) &&
            same("judge", run_judge, &twins, in) && same("step", run_step, &twins, in) &&
-           same("steps", run_steps, &twins, in) && same("report", run_report, &twins, in);
+           same("steps", run_steps, &twins, in) && same("report", run_report, &twins, in) &&
+           same("figures in one walk", run_figures, &one_walk, in) &&
+           same("judge in one walk", run_judge, &one_walk, in);
+}
+
+// Whether the searches that fill trees give the same for this input.
+static int searches_same(const struct input *in)
+{
+    return same("search", run_search, &twins, in) && same("search in one walk", run_search, &one_walk, in);
 }
 
 // Whether a random plan of this size is treated the same: as it is, asked just what it gives, late, damaged, spoiled.
@@ -337,10 +347,10 @@ static int same_plan(size_t f, size_t n)
     if (!same("read", run_read, &twins, &in) || !same("report", run_report, &twins, &in))
         return 0;
     spoil(&in);
-    return all_same(&in) && same("search", run_search, &twins, &in);
+    return all_same(&in) && searches_same(&in);
 }
 
-// Whether a random search is treated the same, by both twins.
+// Whether a random search is treated the same, by all three twins.
 static int same_search(void)
 {
     struct input in;
@@ -352,8 +362,7 @@ static int same_search(void)
         in.words[4 * i + 2] = (uint16_t)below(20);
         in.words[4 * i + 3] = (uint16_t)(1 + below(4));
     }
-    int equal = same("search", run_search, &twins, &in);
-    return equal && (f * n > 12 || same("search", run_search, &every_table, &in));
+    return searches_same(&in) && (f * n > 12 || same("search", run_search, &every_table, &in));
 }
 
 // Whether everything is treated the same.
@@ -368,7 +377,7 @@ static int compare(void)
     for (size_t i = 0; equal && i < 3; i++) {
         struct input in;
         searches[i](&in);
-        equal = same("search", run_search, &twins, &in) && same("search", run_search, &every_table, &in);
+        equal = searches_same(&in) && same("search", run_search, &every_table, &in);
     }
     return equal;
 }
@@ -404,6 +413,12 @@ static const struct row rows[] = {
     {"every table / our search, none", run_search, make_none, 1, &every_table, &ours},
     {"every table / our search, easy", run_search, make_easy, 1, &every_table, &ours},
     {"every table / our search, all slots needed", run_search, make_all, 1, &every_table, &ours},
+    {"figures / one walk, f 64 n 8", run_figures, make_full, BATCH, &ours, &one_walk},
+    {"judge / one walk, accepted, f 64 n 8", run_judge, make_accepted, BATCH, &ours, &one_walk},
+    {"judge / one walk, last late, f 64 n 8", run_judge, make_late, BATCH, &ours, &one_walk},
+    {"search / one walk, none", run_search, make_none, 1, &ours, &one_walk},
+    {"search / one walk, easy", run_search, make_easy, 1, &ours, &one_walk},
+    {"search / one walk, all slots needed", run_search, make_all, 1, &ours, &one_walk},
 };
 
 // The ticks that so many repeats over the batch take.

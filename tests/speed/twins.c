@@ -6,6 +6,10 @@
 enum { HEADER = 1, CLIENT = 2, SLOTS = 3, END = 9 };
 enum { OK, RATE, LATE };
 
+// Ways to judge one client, and to fill its tree: by every stretch, or in one walk.
+typedef int judge(size_t f, const uint8_t *owners, size_t client, const uint16_t need[4], size_t stretch[2]);
+typedef void fill(size_t f, const uint16_t need[4], uint8_t needs[512]);
+
 static const uint8_t body_length[16] = {[HEADER] = 2, [CLIENT] = 9, [SLOTS] = 8, [END] = 0};
 
 // The number of two bytes, the high byte first.
@@ -206,9 +210,9 @@ static size_t scaled_of(size_t f, const uint8_t *owners, size_t client, size_t m
     return (size_t)most;
 }
 
-// A client's m and L.
-size_t twin_figures(size_t f, size_t n, const uint16_t words[32], const uint8_t owners[static 64], size_t client,
-                    size_t figure[2])
+// The refusal of a client's figures: the plan's, then 13 and 14; leaves m, and 0 for L.
+static size_t check_figures(size_t f, size_t n, const uint16_t words[32], const uint8_t owners[static 64],
+                            size_t client, size_t figure[2])
 {
     figure[0] = figure[1] = 0;
     size_t number = twin_check(f, n, words, owners);
@@ -216,12 +220,18 @@ size_t twin_figures(size_t f, size_t n, const uint16_t words[32], const uint8_t 
         return number;
     if (client < 1 || client > n)
         return 13;
-    size_t m = slots_of(f, owners, client);
-    if (m == 0)
-        return 14;
-    figure[0] = m;
-    figure[1] = scaled_of(f, owners, client, m);
-    return 0;
+    figure[0] = slots_of(f, owners, client);
+    return figure[0] == 0 ? 14 : 0;
+}
+
+// A client's m and L.
+size_t twin_figures(size_t f, size_t n, const uint16_t words[32], const uint8_t owners[static 64], size_t client,
+                    size_t figure[2])
+{
+    size_t number = check_figures(f, n, words, owners, client, figure);
+    if (!number)
+        figure[1] = scaled_of(f, owners, client, figure[0]);
+    return number;
 }
 
 // Whether a client with m slots has enough rate.
@@ -253,15 +263,23 @@ static int judge_client(size_t f, const uint8_t *owners, size_t client, const ui
     return OK;
 }
 
-// Judges a plan: client, verdict (0 ok, 1 rate, 2 late), start, length.
-size_t twin_judge(size_t f, size_t n, const uint16_t words[32], const uint8_t owners[static 64], size_t found[4])
+// Whether a client is ok, every stretch tried.
+static int is_ok(size_t f, const uint8_t *owners, size_t client, const uint16_t need[4])
+{
+    size_t stretch[2];
+    return judge_client(f, owners, client, need, stretch) == OK;
+}
+
+// Judges a plan, each client so: client, verdict (0 ok, 1 rate, 2 late), start, length.
+static size_t judge_with(judge *each, size_t f, size_t n, const uint16_t words[32], const uint8_t owners[static 64],
+                         size_t found[4])
 {
     memset(found, 0, 4 * sizeof *found);
     size_t number = twin_check(f, n, words, owners);
     if (number)
         return number;
     for (size_t i = 0; i < n; i++) {
-        int verdict = judge_client(f, owners, i + 1, words + 4 * i, found + 2);
+        int verdict = each(f, owners, i + 1, words + 4 * i, found + 2);
         if (verdict != OK) {
             found[0] = i + 1;
             found[1] = (size_t)verdict;
@@ -269,6 +287,12 @@ size_t twin_judge(size_t f, size_t n, const uint16_t words[32], const uint8_t ow
         }
     }
     return 0;
+}
+
+// Judges a plan, every stretch tried.
+size_t twin_judge(size_t f, size_t n, const uint16_t words[32], const uint8_t owners[static 64], size_t found[4])
+{
+    return judge_with(judge_client, f, n, words, owners, found);
 }
 
 // A search: each client's tree of needs, the table so far, and the best table found.
@@ -279,20 +303,26 @@ struct search {
     uint8_t *best;
 };
 
-// Fills a client's tree: at the leaves 0 where that whole set of slots is ok, above how many more slots it needs.
-static void fill_needs(size_t f, const uint16_t need[4], uint8_t needs[512])
+// Fills a client's tree above its leaves: how many more slots it needs.
+static void fill_above(size_t sets, uint8_t needs[512])
 {
-    size_t sets = (size_t)1 << f, stretch[2];
-    for (size_t set = 0; set < sets; set++) {
-        uint8_t owned[8];
-        for (size_t i = 0; i < f; i++)
-            owned[i] = set >> (f - 1 - i) & 1;
-        needs[sets + set] = judge_client(f, owned, 1, need, stretch) == OK ? 0 : 9;
-    }
     for (size_t x = sets - 1; x > 0; x--) {
         uint8_t without = needs[2 * x], with = (uint8_t)(needs[2 * x + 1] + 1);
         needs[x] = without < with ? without : with;
     }
+}
+
+// Fills a client's tree: at the leaves 0 where that whole set of slots is ok, every stretch of it tried.
+static void fill_needs(size_t f, const uint16_t need[4], uint8_t needs[512])
+{
+    size_t sets = (size_t)1 << f;
+    for (size_t set = 0; set < sets; set++) {
+        uint8_t owned[8];
+        for (size_t i = 0; i < f; i++)
+            owned[i] = set >> (f - 1 - i) & 1;
+        needs[sets + set] = is_ok(f, owned, 1, need) ? 0 : 9;
+    }
+    fill_above(sets, needs);
 }
 
 // Goes through the tables below this branch in dictionary order; node[c] is where client c + 1 stands in its tree.
@@ -326,8 +356,8 @@ static size_t check_search(size_t f, size_t n, const uint16_t words[32])
     return f > 8 || n > 4 ? 16 : 0;
 }
 
-// Searches: 0 where a table is found, 1 for none, else the refusal's number, which is above 1.
-size_t twin_search(size_t f, size_t n, const uint16_t words[32], uint8_t owners[64])
+// Searches, each tree filled so: 0 where a table is found, 1 for none, else the refusal's number, which is above 1.
+static size_t search_with(fill *each, size_t f, size_t n, const uint16_t words[32], uint8_t owners[64])
 {
     memset(owners, 0, 64);
     size_t number = check_search(f, n, words);
@@ -339,9 +369,15 @@ size_t twin_search(size_t f, size_t n, const uint16_t words[32], uint8_t owners[
     search.fewest = f + 1;
     search.best = owners;
     for (size_t c = 0; c < n; c++)
-        fill_needs(f, words + 4 * c, search.needs[c]);
+        each(f, words + 4 * c, search.needs[c]);
     explore(&search, 0, 0, (const size_t[4]){1, 1, 1, 1});
     return search.fewest > f;
+}
+
+// Searches, every stretch of every set of slots tried.
+size_t twin_search(size_t f, size_t n, const uint16_t words[32], uint8_t owners[64])
+{
+    return search_with(fill_needs, f, n, words, owners);
 }
 
 // Moves on to the next table in dictionary order; 0 after the last.
@@ -360,9 +396,8 @@ static int next_table(size_t f, size_t n, uint8_t table[8])
 // Whether every client is ok.
 static int accepted(size_t f, size_t n, const uint16_t words[32], const uint8_t *owners)
 {
-    size_t stretch[2];
     for (size_t i = 0; i < n; i++)
-        if (judge_client(f, owners, i + 1, words + 4 * i, stretch) != OK)
+        if (!is_ok(f, owners, i + 1, words + 4 * i))
             return 0;
     return 1;
 }
@@ -520,4 +555,72 @@ size_t twin_report(const uint8_t *s, size_t size, uint8_t page[2048])
         end = put_plan(page, sizes[0], sizes[1], words, owners);
     }
     return (size_t)(end - page);
+}
+
+// L in one walk over D(x), m * x - f * (the client's slots among the first x): a stretch's value is one D less another.
+static size_t walk_scaled(size_t f, const uint8_t *owners, size_t client, size_t m)
+{
+    int d = 0, most = 0, least = 0;
+    for (size_t slot = 0; slot < f; slot++) {
+        d += (int)m - (owners[slot] == client ? (int)f : 0);
+        if (d > most)
+            most = d;
+        if (d < least)
+            least = d;
+    }
+    return (size_t)(most - least);
+}
+
+// A client's m and L in one walk.
+size_t twin_walk_figures(size_t f, size_t n, const uint16_t words[32], const uint8_t owners[static 64], size_t client,
+                         size_t figure[2])
+{
+    size_t number = check_figures(f, n, words, owners, client, figure);
+    if (!number)
+        figure[1] = walk_scaled(f, owners, client, figure[0]);
+    return number;
+}
+
+// Judges one client in one walk; its stretches are tried only where it fails.
+static int walk_client(size_t f, const uint8_t *owners, size_t client, const uint16_t need[4], size_t stretch[2])
+{
+    size_t m = slots_of(f, owners, client);
+    if (has_rate(f, m, need) && walk_scaled(f, owners, client, m) * need[3] <= need[2] * m)
+        return OK;
+    return judge_client(f, owners, client, need, stretch);
+}
+
+// Judges a plan, one walk a client.
+size_t twin_walk_judge(size_t f, size_t n, const uint16_t words[32], const uint8_t owners[static 64], size_t found[4])
+{
+    return judge_with(walk_client, f, n, words, owners, found);
+}
+
+// Whether a client is ok that owns this set of slots, a bit each, in one walk.
+static int walk_set(size_t f, size_t set, const uint16_t need[4])
+{
+    int m = __builtin_popcount((unsigned)set), d = 0, most = 0, least = 0;
+    if (!has_rate(f, (size_t)m, need))
+        return 0;
+    for (size_t slot = 0; slot < f; slot++) {
+        d += m - (set >> slot & 1 ? (int)f : 0);
+        most = d > most ? d : most;
+        least = d < least ? d : least;
+    }
+    return (most - least) * need[3] <= need[2] * m;
+}
+
+// Fills a client's tree, one walk a set of slots; L is the same for a set and its mirror image.
+static void walk_needs(size_t f, const uint16_t need[4], uint8_t needs[512])
+{
+    size_t sets = (size_t)1 << f;
+    for (size_t set = 0; set < sets; set++)
+        needs[sets + set] = walk_set(f, set, need) ? 0 : 9;
+    fill_above(sets, needs);
+}
+
+// Searches, one walk a set of slots.
+size_t twin_walk_search(size_t f, size_t n, const uint16_t words[32], uint8_t owners[64])
+{
+    return search_with(walk_needs, f, n, words, owners);
 }

@@ -20,4 +20,10 @@ size_t twin_steps(size_t f, size_t n, const uint16_t words[32], const uint8_t ow
                   const uint8_t *arrivals, size_t count, uint8_t answer[9], size_t times);
 size_t twin_report(const uint8_t *s, size_t size, uint8_t page[2048]);
 
+// A second set: one walk over the frame for a client, where those above try every start and every length.
+size_t twin_walk_figures(size_t f, size_t n, const uint16_t words[32], const uint8_t owners[static 64], size_t client,
+                         size_t figure[2]);
+size_t twin_walk_judge(size_t f, size_t n, const uint16_t words[32], const uint8_t owners[static 64], size_t found[4]);
+size_t twin_walk_search(size_t f, size_t n, const uint16_t words[32], uint8_t owners[64]);
+
 #endif
