@@ -49,18 +49,22 @@ pub owner-pass : (owner n offset : ℕ) → owner ≤ n → ownerCheck owner n o
 unfolding ownerCheck
 owner-pass owner n offset h = simp (le-leb owner n h)
 
--- of two owners checked at one place, the higher decides
+-- of two owners checked at one place, the higher decides: the other one where the first passes
+owner-other : (one other n offset : ℕ) → one ≤ n → ownerCheck other n offset ≡ ownerCheck (max one other) n offset
+unfolding ownerCheck
+owner-other one other n offset h =
+    ⊎-elim
+    (λ (k : n < other). simp (lt-leb other n k, lt-leb (max one other) n (omega arith)))
+    (λ (k : other ≤ n). simp (le-leb other n k, le-leb (max one other) n (omega arith)))
+    (below-or-not n other)
+
 pub owner-higher : (one other n offset : ℕ)
     → orElse (ownerCheck one n offset) (ownerCheck other n offset) ≡ ownerCheck (max one other) n offset
 unfolding ownerCheck
 owner-higher one other n offset =
     ⊎-elim
     (λ (h : n < one). simp (lt-leb one n h, lt-leb (max one other) n (omega arith)))
-    (λ (h : one ≤ n).
-    ⊎-elim
-    (λ (k : n < other). simp (le-leb one n h, lt-leb other n k, lt-leb (max one other) n (omega arith)))
-    (λ (k : other ≤ n). simp (le-leb one n h, le-leb other n k, le-leb (max one other) n (omega arith)))
-    (below-or-not n other))
+    (λ (h : one ≤ n). rw (le-leb one n h) (owner-other one other n offset h))
     (below-or-not n one)
 
 -- ---- the whole: a plan passes exactly when it is in bounds
