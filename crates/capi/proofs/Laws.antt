@@ -1,14 +1,16 @@
 -- Laws of what C callers are told: an answer about what was read, the stream of a plan found, and nine bytes.
 -- Assumes nothing.
-use mathlib.Core.Path.{_≡_, sym, subst, _∙_}
-use mathlib.Core.List.{List, _∷_}
+use mathlib.Core.Path.{_≡_, refl, sym, subst, _∙_}
+use mathlib.Core.List.{List, [], _∷_}
 use Prim.Native.Nat.{ℕ, _≤_, _<_}
 use native.Mathlib.Omega.{arith}
-use lib.ListN.{length, getD}
+use lib.ListN.{length, getD, replicate}
 use lib.Seq.{take-all}
 use Rattle.records.specs.Pieces.{part}
 use Rattle.records.specs.Put.{Put}
-use Rattle.records.specs.declared.Outcome.the-variants.{Fine}
+use Rattle.records.specs.declared.Outcome.{Outcome}
+use Rattle.records.specs.declared.Outcome.the-variants.{Fine, Refused}
+use Rattle.records.proofs.Checks.{refuses}
 use Rattle.records.proofs.Parts.{run, part-run}
 use Rattle.plan.specs.declared.Plan.{Plan}
 use Rattle.plan.specs.Plan.{ownerOf}
@@ -19,8 +21,9 @@ use Rattle.stream.proofs.Lengths.{length-stream}
 use Rattle.search.specs.declared.Finding.{Finding}
 use Rattle.search.specs.declared.Finding.the-variants as finding
 use Rattle.search.specs.declared.Searched.{Searched}
-use Rattle.search.specs.Search.{idlePlan, withTable, SearchedAs, searchedNumber}
+use Rattle.search.specs.Search.{idlePlan, searchCheck, withTable, SearchedAs, searchedNumber}
 use Rattle.search.proofs.Questions.{search-fine}
+use Rattle.search.proofs.Same.{check-idle}
 use Rattle.arbiter.specs.declared.Arbiter.{Arbiter}
 use Rattle.arbiter.specs.declared.Stepped.{Stepped}
 use Rattle.arbiter.specs.Step.{joined, servedNow, advanced, stepCheck, stepOf, stepNumber, clientServed}
@@ -62,6 +65,18 @@ told-search {s = s} {out = out} {now = now} {size = size} answer e is f h put =
       returned = first-told s e f h;
       put = subst (λ (x : Reading). Put out 0 (foundStream (x .plan) (answer .answer) (answer .owners)) now size) e put;
     }
+
+-- a search that its checks refuse, v being what they found
+pub search-refused : (plan : Plan) {v : Outcome} {k offset : ℕ} → v ≡ searchCheck plan → v ≡ Refused k offset
+    → IsSearchedFor plan (record { answer = finding.Refused k; owners = replicate 64 0 })
+search-refused plan e h = (refuses (e ∙ check-idle plan) h, refl)
+
+-- and what is told of it
+pub told-refused : {s out now : List ℕ} {t r size k offset : ℕ} {reading : Reading} {v : Outcome} → reading ≡ readOf s
+    → v ≡ searchCheck (reading .plan) → v ≡ Refused k offset → t ≡ k → r ≡ firstNumber (reading .outcome) t
+    → Put out 0 [] now size → ToldSearch s out r size now
+told-refused {k = k} {reading = reading} e f g =
+    told-search (record { answer = finding.Refused k; owners = replicate 64 0 }) e (search-refused (reading .plan) f g)
 
 -- a step on the plan and with the record that were read
 pub told-step : {s bytes xs after answer : List ℕ} {t r : ℕ} {reading : Reading} {arb : Arbiter} (stepped : Stepped)

@@ -6,6 +6,10 @@ pub mod inner; // inner.rt
 
 use inner::first_number;
 use plan::Plan;
+use records::Outcome;
+use search::Finding;
+use search::Searched;
+use search::inner::check_search;
 use text::PAGE;
 ghost use mathlib.Core.List.{_∷_, []};
 ghost use Rattle.plan.specs.Plan.{defaultWaiting};
@@ -108,8 +112,32 @@ pub extern "C" fn gwelathur_verdict(s: &[u8], client: usize, verdict: &mut usize
 }
 
 // Searches for a plan's frame and requirements, and writes the plan with the table found; its length is 0 for none.
+// What is refused is refused here, before room is made for the trees of the search.
 #[no_mangle]
 pub extern "C" fn gwelathur_search(s: &[u8], out: &mut [u8; LONGEST], length: &mut usize) -> usize
+    ensures { λ r. ⌜ ToldSearch (now (s .entry)) (now (out .entry)) r (now (length .exit)) (now (out .exit)) ⌝ }
+{
+    let reading = stream::read(s);
+    let outcome = reading.outcome;
+    let plan = reading.plan;
+    let checked = check_search(plan);
+    if let Outcome::Refused(number, _) = checked {
+        let refused = Searched {
+            answer: Finding::Refused(number),
+            owners: [0u8; 64],
+        };
+        return first_number(outcome, inner::tell_searched(plan, refused, out, length));
+    }
+    gwelathur_search_whole(s, out, length)
+}
+
+// The same in one. It is exported so that the compiler keeps its stack apart; C calls the one above.
+#[no_mangle]
+pub extern "C" fn gwelathur_search_whole(
+    s: &[u8],
+    out: &mut [u8; LONGEST],
+    length: &mut usize,
+) -> usize
     ensures { λ r. ⌜ ToldSearch (now (s .entry)) (now (out .entry)) r (now (length .exit)) (now (out .exit)) ⌝ }
 {
     let reading = stream::read(s);

@@ -20,6 +20,12 @@ use Rattle.search.specs.Search.{idlePlan, searchCheck, sizeCheck, withTa
 use Rattle.search.proofs.Questions.{search-fine}
 use Rattle.search.proofs.Mending.{finds-same}
 
+-- the checks read no owners
+pub check-idle : (plan : Plan) → searchCheck plan ≡ searchCheck (idlePlan (plan .f) (plan .n) (plan .clients))
+unfolding searchCheck sizeCheck
+check-idle plan =
+    rw (requirements-same plan (idlePlan (plan .f) (plan .n) (plan .clients)) refl refl (λ i l. refl))
+
 -- a table's slots past f are not read
 pub accepted-front : (plan : Plan) (owners : List ℕ) → 0 < plan .f → AcceptedIn plan (take (plan .f) owners)
     → AcceptedIn plan owners
