@@ -12,7 +12,8 @@ returns c =
     let a = c .before .before .before .before .before .args in
     let kind-at = c .before .before .before .kind-at in
     let class-of = c .before .before .class-of in
-    let found = rw (c .before .body-of .ensures .0, class-of .ensures, kind-at .ensures) at (c .check-record .ensures) in
+    let body = c .before .body-of .ensures .0 in
+    let found = rw (body, class-of .ensures, kind-at .ensures) at (c .check-record .ensures) in
     found ∙ due-body (a .s .now) (a .at) (a .due)
 
 pub check-due-spec : {M : Type 1} → statement M

@@ -25,8 +25,9 @@ enum-known-clients c = search needs
 returns : tie.Need-returns
 unfolding restRead
 returns c =
-    let pre = c .before .before .before .before .before .before .pre in
-    let to = c .before .before .before .before .whole-of .ensures .0 ∙ sym (pre .2) in
+    let start = c .before .before .before .before .before .before in
+    let whole-of = c .before .before .before .before .whole-of in
+    let to = whole-of .ensures .0 ∙ sym (start .pre .2) in
     let check-clients = c .before .before .before .check-clients in
     stops _ (rw to at (check-clients .ensures)) (c .before .clients .given .1)
 
@@ -48,9 +49,11 @@ enum-known-rows c = search needs
 returns-2 : tie.Need-returns-2
 unfolding restRead
 returns-2 c =
-    let a = c .before .before .before .before .before .before .before .before .before .before .args in
+    let start = c .before .before .before .before .before .before .before .before .before .before in
+    let a = start .args in
     let s = a .s .now in
-    let to = c .before .before .before .before .before .before .before .before .whole-of .ensures .0 ∙ sym (c .before .before .before .before .before .before .before .before .before .before .pre .2) in
+    let whole-of = c .before .before .before .before .before .before .before .before .whole-of in
+    let to = whole-of .ensures .0 ∙ sym (start .pre .2) in
     let check-clients = c .before .before .before .before .before .before .before .check-clients in
     let enum-told = c .before .before .before .before .before .enum-told in
     let clients-length = c .before .before .before .before .clients-length in
@@ -79,9 +82,11 @@ check-end-requires c κs = search needs
 returns-3 : tie.Need-returns-3
 unfolding restRead
 returns-3 c =
-    let a = c .before .before .before .before .before .before .before .before .before .before .before .args in
+    let start = c .before .before .before .before .before .before .before .before .before .before .before in
+    let a = start .args in
     let s = a .s .now in
-    let to = c .before .before .before .before .before .before .before .before .before .whole-of .ensures .0 ∙ sym (c .before .before .before .before .before .before .before .before .before .before .before .pre .2) in
+    let whole-of = c .before .before .before .before .before .before .before .before .before .whole-of in
+    let to = whole-of .ensures .0 ∙ sym (start .pre .2) in
     let check-clients = c .before .before .before .before .before .before .before .before .check-clients in
     let enum-told = c .before .before .before .before .before .before .enum-told in
     let clients-length = c .before .before .before .before .before .clients-length in

@@ -1,5 +1,5 @@
--- `stream::reader::check_row` meets its contract: the record decides where it is refused, else its eight bytes, of which
--- none lies past f in a full row.
+-- `stream::reader::check_row` meets its contract: the record decides where it is refused, else its eight bytes; in a
+-- full row none of them lies past f.
 -- Assumes nothing.
 use mathlib.Core.Path.{_∙_}
 use native.Mathlib.Omega.{arith}
