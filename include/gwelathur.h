@@ -1,9 +1,10 @@
 /*
  * Gwelathur for C callers: one backplane link that up to eight drives share by time slots.
  *
- * A plan is handed in as the bytes of its plan file, `plan` and `size`. Every function takes any bytes and any
- * numbers. All but the two that write text return 0, or the number of the first refusal that applies; those of reading
- * the plan come first:
+ * A plan is handed in as the bytes of its plan file, `plan` and `size`. docs/FORMAT.md describes the file,
+ * docs/RULES.md what slots, latencies, waits and verdicts are. Every function takes any bytes and any numbers. All but
+ * the two that write text return 0, or the number of the first refusal that applies; those of reading the plan come
+ * first:
  *
  *      1  the file ends where a kind byte is due, or inside a body     10  an owner exceeds n
  *      2  the kind byte is reserved                                    11  a place past f is not 255
@@ -19,7 +20,12 @@
  *
  * What a caller must see to: no pointer is null, not even one whose size is 0; the memory behind a pointer is as long
  * as the number after it (size, room, count) or its array says; and what is lent to be written to overlaps nothing else
- * that is handed in. Nothing is kept between calls, and nothing is allocated.
+ * that is handed in.
+ *
+ * The library is compiled for x86-64 alone. It has no data of its own, keeps nothing between calls and allocates
+ * nothing, so any function may run at the same time in several threads and handlers. It asks for memcpy and memset. A
+ * call takes up to 1 KB of stack, gwelathur_search 8 KB, and half a KB where it refuses. docs/C.md has the numbers of
+ * each function, and the commands that measure them.
  */
 #ifndef GWELATHUR_H
 #define GWELATHUR_H
