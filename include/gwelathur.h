@@ -24,8 +24,8 @@
  *
  * The library is compiled for x86-64 alone. It has no data of its own, keeps nothing between calls and allocates
  * nothing, so any function may run at the same time in several threads and handlers. It asks for memcpy and memset. A
- * call takes up to 1 KB of stack, gwelathur_search 8 KB, and half a KB where it refuses. docs/C.md has the numbers of
- * each function, and the commands that measure them.
+ * call takes some 1,100 bytes of stack at most, gwelathur_search 8,300, and 450 where it refuses. docs/C.md has the
+ * numbers of each function, and the commands that measure them.
  */
 #ifndef GWELATHUR_H
 #define GWELATHUR_H
@@ -63,8 +63,8 @@ size_t gwelathur_read(const uint8_t *plan, size_t size, size_t *offset);
 size_t gwelathur_figures(const uint8_t *plan, size_t size, size_t client, size_t *slots, size_t *scaled);
 
 /*
- * A client's wait for that many waiting requests. Refuses 1 to 11, 13, 14, 15. *wait: in how many slots, the present
- * one counted, the last of them is served.
+ * A client's wait for that many waiting requests. Refuses 1 to 11, 13, 14, 15. *wait: within how many slots, the
+ * present one counted, the last of them is served.
  */
 size_t gwelathur_wait(const uint8_t *plan, size_t size, size_t client, size_t waiting, size_t *wait);
 
