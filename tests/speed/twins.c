@@ -6,7 +6,8 @@
 enum { HEADER = 1, CLIENT = 2, SLOTS = 3, END = 9 };
 enum { OK, RATE, LATE };
 
-// Ways to judge one client, and to fill its tree: by every stretch, or in one walk.
+// Ways to find a client's L, to judge it, and to fill its tree: by every stretch, or in one walk.
+typedef size_t scale(size_t f, const uint8_t *owners, size_t client, size_t m);
 typedef int judge(size_t f, const uint8_t *owners, size_t client, const uint16_t need[4], size_t stretch[2]);
 typedef void fill(size_t f, const uint16_t need[4], uint8_t needs[512]);
 
@@ -210,9 +211,9 @@ static size_t scaled_of(size_t f, const uint8_t *owners, size_t client, size_t m
     return (size_t)most;
 }
 
-// The refusal of a client's figures: the plan's, then 13 and 14; leaves m, and 0 for L.
-static size_t check_figures(size_t f, size_t n, const uint16_t words[32], const uint8_t owners[static 64],
-                            size_t client, size_t figure[2])
+// A client's m and L, L found so.
+static size_t figures_with(scale *each, size_t f, size_t n, const uint16_t words[32], const uint8_t owners[static 64],
+                           size_t client, size_t figure[2])
 {
     figure[0] = figure[1] = 0;
     size_t number = twin_check(f, n, words, owners);
@@ -220,18 +221,19 @@ static size_t check_figures(size_t f, size_t n, const uint16_t words[32], const 
         return number;
     if (client < 1 || client > n)
         return 13;
-    figure[0] = slots_of(f, owners, client);
-    return figure[0] == 0 ? 14 : 0;
+    size_t m = slots_of(f, owners, client);
+    if (m == 0)
+        return 14;
+    figure[0] = m;
+    figure[1] = each(f, owners, client, m);
+    return 0;
 }
 
-// A client's m and L.
+// A client's m and L, every stretch tried.
 size_t twin_figures(size_t f, size_t n, const uint16_t words[32], const uint8_t owners[static 64], size_t client,
                     size_t figure[2])
 {
-    size_t number = check_figures(f, n, words, owners, client, figure);
-    if (!number)
-        figure[1] = scaled_of(f, owners, client, figure[0]);
-    return number;
+    return figures_with(scaled_of, f, n, words, owners, client, figure);
 }
 
 // Whether a client with m slots has enough rate.
@@ -575,10 +577,7 @@ static size_t walk_scaled(size_t f, const uint8_t *owners, size_t client, size_t
 size_t twin_walk_figures(size_t f, size_t n, const uint16_t words[32], const uint8_t owners[static 64], size_t client,
                          size_t figure[2])
 {
-    size_t number = check_figures(f, n, words, owners, client, figure);
-    if (!number)
-        figure[1] = walk_scaled(f, owners, client, figure[0]);
-    return number;
+    return figures_with(walk_scaled, f, n, words, owners, client, figure);
 }
 
 // Judges one client in one walk; its stretches are tried only where it fails.

@@ -66,17 +66,17 @@ told-search {s = s} {out = out} {now = now} {size = size} answer e is f h put =
       put = subst (λ (x : Reading). Put out 0 (foundStream (x .plan) (answer .answer) (answer .owners)) now size) e put;
     }
 
--- a search that its checks refuse, v being what they found
-pub search-refused : (plan : Plan) {v : Outcome} {k offset : ℕ} → v ≡ searchCheck plan → v ≡ Refused k offset
+-- the answer of a search that its checks refuse, v being what they found
+pub refused-answer : (plan : Plan) {v : Outcome} {k offset : ℕ} → v ≡ searchCheck plan → v ≡ Refused k offset
     → IsSearchedFor plan (record { answer = finding.Refused k; owners = replicate 64 0 })
-search-refused plan e h = (refuses (e ∙ check-idle plan) h, refl)
+refused-answer plan e h = (refuses (e ∙ check-idle plan) h, refl)
 
 -- and what is told of it
 pub told-refused : {s out now : List ℕ} {t r size k offset : ℕ} {reading : Reading} {v : Outcome} → reading ≡ readOf s
     → v ≡ searchCheck (reading .plan) → v ≡ Refused k offset → t ≡ k → r ≡ firstNumber (reading .outcome) t
     → Put out 0 [] now size → ToldSearch s out r size now
 told-refused {k = k} {reading = reading} e f g =
-    told-search (record { answer = finding.Refused k; owners = replicate 64 0 }) e (search-refused (reading .plan) f g)
+    told-search (record { answer = finding.Refused k; owners = replicate 64 0 }) e (refused-answer (reading .plan) f g)
 
 -- a step on the plan and with the record that were read
 pub told-step : {s bytes xs after answer : List ℕ} {t r : ℕ} {reading : Reading} {arb : Arbiter} (stepped : Stepped)

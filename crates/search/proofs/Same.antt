@@ -1,5 +1,5 @@
--- The search reads no requirements past n: where the first n agree, so do the answers. And a table is accepted just as
--- well when it stands in the 64 places of a plan.
+-- The search reads no owners, and no requirements past n: where the first n agree, so do the answers. And a table is
+-- accepted just as well when it stands in the 64 places of a plan.
 -- Assumes nothing.
 use mathlib.Core.Path.{_≡_, refl, sym, _∙_}
 use mathlib.Core.Bool.{Bool, true, false}

@@ -2,14 +2,14 @@
 -- is what `gwelathur_search_whole` tells.
 -- Assumes nothing.
 use borrow.Author.Needs.{needs}
-use Rattle.capi.proofs.Laws.{search-refused, told-refused}
+use Rattle.capi.proofs.Laws.{refused-answer, told-refused}
 use Rattle.capi.proofs.gwelathur_search.Statement.{statement}
 use Rattle.capi.proofs.gwelathur_search.Tie as tie
 
 tell-searched-requires : tie.Need-tell-searched-requires
 tell-searched-requires c κs =
     let check-search = c .before .before .before .before .before .check-search in
-    search-refused _ (check-search .ensures) (c .before .before .before .checked .given .1)
+    refused-answer _ (check-search .ensures) (c .before .before .before .checked .given .1)
 
 returns : tie.Need-returns
 returns c =

@@ -5,18 +5,6 @@ use Rattle.capi.proofs.Laws.{told-search}
 use Rattle.capi.proofs.gwelathur_search_whole.Statement.{statement}
 use Rattle.capi.proofs.gwelathur_search_whole.Tie as tie
 
-read-requires : tie.Need-read-requires
-read-requires c κs = search needs
-
-search-requires : tie.Need-search-requires
-search-requires c κs = search needs
-
-tell-searched-requires : tie.Need-tell-searched-requires
-tell-searched-requires c κs = search needs
-
-first-number-requires : tie.Need-first-number-requires
-first-number-requires c κs = search needs
-
 returns : tie.Need-returns
 returns c =
     let search = c .before .before .before .before .search in
@@ -27,4 +15,4 @@ returns c =
 pub gwelathur-search-whole-spec : {M : Type 1} → statement M
 gwelathur-search-whole-spec =
     tie.close
-    (tie.spec read-requires search-requires tell-searched-requires first-number-requires returns)
+    (tie.spec (λ c κs. search needs) (λ c κs. search needs) (λ c κs. search needs) (λ c κs. search needs) returns)

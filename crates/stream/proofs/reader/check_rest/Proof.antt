@@ -13,15 +13,6 @@ use Rattle.stream.proofs.Records.{place-clients, place-rows}
 use Rattle.stream.proofs.reader.check_rest.Statement.{statement}
 use Rattle.stream.proofs.reader.check_rest.Tie as tie
 
-whole-of-requires : tie.Need-whole-of-requires
-whole-of-requires c κs = search needs
-
-check-clients-requires : tie.Need-check-clients-requires
-check-clients-requires c κs = search needs
-
-enum-known-clients : tie.Need-enum-known-clients
-enum-known-clients c = search needs
-
 returns : tie.Need-returns
 unfolding restRead
 returns c =
@@ -30,21 +21,6 @@ returns c =
     let to = whole-of .ensures .0 ∙ sym (start .pre .2) in
     let check-clients = c .before .before .before .check-clients in
     stops _ (rw to at (check-clients .ensures)) (c .before .clients .given .1)
-
-enum-told : tie.Need-enum-told
-enum-told c = search needs
-
-clients-length-requires : tie.Need-clients-length-requires
-clients-length-requires c κs = search needs
-
-add-to-rows : tie.Need-add-to-rows
-add-to-rows c = search needs
-
-check-rows-requires : tie.Need-check-rows-requires
-check-rows-requires c κs = search needs
-
-enum-known-rows : tie.Need-enum-known-rows
-enum-known-rows c = search needs
 
 returns-2 : tie.Need-returns-2
 unfolding restRead
@@ -63,21 +39,6 @@ returns-2 c =
     let rows = rw (clients-length .ensures, to, ← k) at (check-rows .ensures) in
     let due = firstOf (rowDue s (a .f) (a .n) (toRows s (a .n))) (rowsOf (a .f)) in
     passes clients (enum-told .given .1) (stops {x = due} _ rows (c .before .rows .given .1))
-
-enum-told-2 : tie.Need-enum-told-2
-enum-told-2 c = search needs
-
-add-rows-length : tie.Need-add-rows-length
-add-rows-length c = search needs
-
-rows-length-requires : tie.Need-rows-length-requires
-rows-length-requires c κs = search needs
-
-add-check-end : tie.Need-add-check-end
-add-check-end c = search needs
-
-check-end-requires : tie.Need-check-end-requires
-check-end-requires c κs = search needs
 
 returns-3 : tie.Need-returns-3
 unfolding restRead
@@ -106,19 +67,19 @@ pub check-rest-spec : {M : Type 1} → statement M
 check-rest-spec =
     tie.close
     (tie.spec
-    whole-of-requires
-    check-clients-requires
-    enum-known-clients
+    (λ c κs. search needs)
+    (λ c κs. search needs)
+    (λ c. search needs)
     returns
-    enum-told
-    clients-length-requires
-    add-to-rows
-    check-rows-requires
-    enum-known-rows
+    (λ c. search needs)
+    (λ c κs. search needs)
+    (λ c. search needs)
+    (λ c κs. search needs)
+    (λ c. search needs)
     returns-2
-    enum-told-2
-    add-rows-length
-    rows-length-requires
-    add-check-end
-    check-end-requires
+    (λ c. search needs)
+    (λ c. search needs)
+    (λ c κs. search needs)
+    (λ c. search needs)
+    (λ c κs. search needs)
     returns-3)

@@ -8,12 +8,6 @@ use Rattle.stream.proofs.Records.{head-found, to-clients}
 use Rattle.stream.proofs.reader.check_stream.Statement.{statement}
 use Rattle.stream.proofs.reader.check_stream.Tie as tie
 
-check-head-requires : tie.Need-check-head-requires
-check-head-requires c κs = search needs
-
-enum-known-head : tie.Need-enum-known-head
-enum-known-head c = search needs
-
 returns : tie.Need-returns
 unfolding readCheck
 returns c =
@@ -28,17 +22,11 @@ shared-slice-read-wide c =
     let check-head = c .before .before .before .check-head in
     omega (arith, head-found _ (check-head .ensures) (c .before .enum-told .given .1) .whole .room)
 
-wide-requires : tie.Need-wide-requires
-wide-requires c κs = search needs
-
 shared-slice-read-wide-2 : tie.Need-shared-slice-read-wide-2
 shared-slice-read-wide-2 c =
     let check-head = c .before .before .before .before .before .check-head in
     let enum-told = c .before .before .before .enum-told in
     omega (arith, head-found _ (check-head .ensures) (enum-told .given .1) .whole .room)
-
-wide-requires-2 : tie.Need-wide-requires-2
-wide-requires-2 c κs = search needs
 
 check-rest-requires : tie.Need-check-rest-requires
 check-rest-requires c κs =
@@ -60,13 +48,13 @@ pub check-stream-spec : {M : Type 1} → statement M
 check-stream-spec =
     tie.close
     (tie.spec
-    check-head-requires
-    enum-known-head
+    (λ c κs. search needs)
+    (λ c. search needs)
     returns
     enum-told
     shared-slice-read-wide
-    wide-requires
+    (λ c κs. search needs)
     shared-slice-read-wide-2
-    wide-requires-2
+    (λ c κs. search needs)
     check-rest-requires
     returns-2)

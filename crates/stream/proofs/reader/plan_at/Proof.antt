@@ -12,17 +12,8 @@ use Rattle.stream.proofs.reader.plan_at.Tie as tie
 shared-slice-read-wide : tie.Need-shared-slice-read-wide
 shared-slice-read-wide c = omega (arith, read-fine _ (c .before .before .pre) .head .whole .room)
 
-wide-requires : tie.Need-wide-requires
-wide-requires c κs = search needs
-
 shared-slice-read-wide-2 : tie.Need-shared-slice-read-wide-2
 shared-slice-read-wide-2 c = omega (arith, read-fine _ (c .before .before .before .before .pre) .head .whole .room)
-
-wide-requires-2 : tie.Need-wide-requires-2
-wide-requires-2 c κs = search needs
-
-whole-of-requires : tie.Need-whole-of-requires
-whole-of-requires c κs = search needs
 
 clients-in-requires : tie.Need-clients-in-requires
 clients-in-requires c κs =
@@ -35,9 +26,6 @@ clients-length-requires : tie.Need-clients-length-requires
 clients-length-requires c κs =
     let pre = c .before .before .before .before .before .before .before .pre in
     omega (arith, read-fine _ pre .head)
-
-add-owners-in : tie.Need-add-owners-in
-add-owners-in c = search needs
 
 owners-in-requires : tie.Need-owners-in-requires
 owners-in-requires c κs =
@@ -72,12 +60,12 @@ plan-at-spec =
     tie.close
     (tie.spec
     shared-slice-read-wide
-    wide-requires
+    (λ c κs. search needs)
     shared-slice-read-wide-2
-    wide-requires-2
-    whole-of-requires
+    (λ c κs. search needs)
+    (λ c κs. search needs)
     clients-in-requires
     clients-length-requires
-    add-owners-in
+    (λ c. search needs)
     owners-in-requires
     returns)
