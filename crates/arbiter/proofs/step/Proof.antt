@@ -6,19 +6,10 @@ use Rattle.arbiter.proofs.Slots.{step-refused, step-advances}
 use Rattle.arbiter.proofs.step.Statement.{statement}
 use Rattle.arbiter.proofs.step.Tie as tie
 
-check-step-requires : tie.Need-check-step-requires
-check-step-requires c κs = search needs
-
-enum-known-checked : tie.Need-enum-known-checked
-enum-known-checked c = search needs
-
 returns : tie.Need-returns
 returns c =
     let refused = sym (c .before .before .before .check-step .ensures) ∙ c .before .checked .given .1 in
     sym (step-refused _ _ _ refused)
-
-enum-told : tie.Need-enum-told
-enum-told c = search needs
 
 advance-requires : tie.Need-advance-requires
 advance-requires c κs = sym (c .before .before .check-step .ensures) ∙ c .enum-told .given .1
@@ -31,4 +22,4 @@ returns-2 c =
 pub step-spec : {M : Type 1} → statement M
 step-spec =
     tie.close
-    (tie.spec check-step-requires enum-known-checked returns enum-told advance-requires returns-2)
+    (tie.spec (λ c κs. search needs) (λ c. search needs) returns (λ c. search needs) advance-requires returns-2)

@@ -14,9 +14,6 @@ returns-2 : tie.Need-returns-2
 unfolding recordCheck
 returns-2 c = search tests
 
-sub-if3 : tie.Need-sub-if3
-sub-if3 c = search needs
-
 returns-3 : tie.Need-returns-3
 unfolding recordCheck
 returns-3 c = search tests
@@ -26,4 +23,4 @@ unfolding recordCheck
 returns-4 c = search tests
 
 pub check-record-spec : {M : Type 1} → statement M
-check-record-spec = tie.close (tie.spec returns returns-2 sub-if3 returns-3 returns-4)
+check-record-spec = tie.close (tie.spec returns returns-2 (λ c. search needs) returns-3 returns-4)

@@ -6,17 +6,8 @@ use Rattle.records.proofs.Checks.{stops}
 use Rattle.records.proofs.or_else.Statement.{statement}
 use Rattle.records.proofs.or_else.Tie as tie
 
-enum-told : tie.Need-enum-told
-enum-told c = search needs
-
-enum-known-first : tie.Need-enum-known-first
-enum-known-first c = search needs
-
-returns : tie.Need-returns
-returns c = search needs
-
 returns-2 : tie.Need-returns-2
 returns-2 c = stops (c .before .before .before .args .second) refl (c .before .first .given .1)
 
 pub or-else-spec : {M : Type 1} → statement M
-or-else-spec = tie.close (tie.spec enum-told enum-known-first returns returns-2)
+or-else-spec = tie.close (tie.spec (λ c. search needs) (λ c. search needs) (λ c. search needs) returns-2)

@@ -7,30 +7,6 @@ use Rattle.text.proofs.Laws.{lendable}
 use Rattle.text.proofs.put_refusal.Statement.{statement}
 use Rattle.text.proofs.put_refusal.Tie as tie
 
-slice-aggregate-put : tie.Need-slice-aggregate-put
-slice-aggregate-put c = search needs
-
-put-requires : tie.Need-put-requires
-put-requires c κs = search needs
-
-put-decimal-requires : tie.Need-put-decimal-requires
-put-decimal-requires c κs = search needs
-
-slice-aggregate-put-2 : tie.Need-slice-aggregate-put-2
-slice-aggregate-put-2 c = search needs
-
-put-requires-2 : tie.Need-put-requires-2
-put-requires-2 c κs = search needs
-
-put-decimal-requires-2 : tie.Need-put-decimal-requires-2
-put-decimal-requires-2 c κs = search needs
-
-slice-aggregate-put-3 : tie.Need-slice-aggregate-put-3
-slice-aggregate-put-3 c = search needs
-
-put-requires-3 : tie.Need-put-requires-3
-put-requires-3 c κs = search needs
-
 returns : tie.Need-returns
 unfolding refusalLine
 returns c =
@@ -44,12 +20,12 @@ pub put-refusal-spec : {M : Type 1} → statement M
 put-refusal-spec =
     tie.close
     (tie.spec
-    slice-aggregate-put
-    put-requires
-    put-decimal-requires
-    slice-aggregate-put-2
-    put-requires-2
-    put-decimal-requires-2
-    slice-aggregate-put-3
-    put-requires-3
+    (λ c. search needs)
+    (λ c κs. search needs)
+    (λ c κs. search needs)
+    (λ c. search needs)
+    (λ c κs. search needs)
+    (λ c κs. search needs)
+    (λ c. search needs)
+    (λ c κs. search needs)
     returns)

@@ -8,9 +8,6 @@ use Rattle.arbiter.proofs.Slots.{advances}
 use Rattle.arbiter.proofs.inner.advance.Statement.{statement}
 use Rattle.arbiter.proofs.inner.advance.Tie as tie
 
-serve-slot-requires : tie.Need-serve-slot-requires
-serve-slot-requires c κs = search needs
-
 next-requires : tie.Need-next-requires
 next-requires c κs =
     let ok = step-fine _ _ _ (c .before .before .before .before .before .pre) in
@@ -24,4 +21,4 @@ returns c =
     (c .next .ensures)
 
 pub advance-spec : {M : Type 1} → statement M
-advance-spec = tie.close (tie.spec serve-slot-requires next-requires returns)
+advance-spec = tie.close (tie.spec (λ c κs. search needs) next-requires returns)

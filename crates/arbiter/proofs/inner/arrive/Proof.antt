@@ -26,33 +26,6 @@ abbrev μ-loop : tie.MeasureT-loop
 loop-holds : tie.Need-loop-holds Inv-loop μ-loop
 loop-holds c = (omega arith, refl, refl, onto-none _ _, onto-none _ _)
 
-slice-read-count : tie.Need-slice-read-count Inv-loop μ-loop
-slice-read-count c = search needs
-
-shared-slice-read-queue-of : tie.Need-shared-slice-read-queue-of Inv-loop μ-loop
-shared-slice-read-queue-of c = search needs
-
-queue-of-requires : tie.Need-queue-of-requires Inv-loop μ-loop
-queue-of-requires c κs = search needs
-
-slice-write-pending : tie.Need-slice-write-pending Inv-loop μ-loop
-slice-write-pending c = search needs
-
-shared-slice-read-away-of : tie.Need-shared-slice-read-away-of Inv-loop μ-loop
-shared-slice-read-away-of c = search needs
-
-away-of-requires : tie.Need-away-of-requires Inv-loop μ-loop
-away-of-requires c κs = search needs
-
-slice-write-turned : tie.Need-slice-write-turned Inv-loop μ-loop
-slice-write-turned c = search needs
-
-add-i : tie.Need-add-i Inv-loop μ-loop
-add-i c = search needs
-
-loop-less : tie.Need-loop-less Inv-loop μ-loop
-loop-less c = search needs
-
 loop-again : tie.Need-loop-again Inv-loop μ-loop
 loop-again c =
     let args = c .before .before .before .before .before .before .before .before .before .before .args in
@@ -85,15 +58,15 @@ arrive-spec =
     Inv-loop
     μ-loop
     loop-holds
-    slice-read-count
-    shared-slice-read-queue-of
-    queue-of-requires
-    slice-write-pending
-    shared-slice-read-away-of
-    away-of-requires
-    slice-write-turned
-    add-i
-    loop-less
+    (λ c. search needs)
+    (λ c. search needs)
+    (λ c κs. search needs)
+    (λ c. search needs)
+    (λ c. search needs)
+    (λ c κs. search needs)
+    (λ c. search needs)
+    (λ c. search needs)
+    (λ c. search needs)
     loop-again
     same-length
     same-length-2

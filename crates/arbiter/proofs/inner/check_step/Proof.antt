@@ -5,21 +5,6 @@ use Rattle.arbiter.specs.Step.{stepCheck}
 use Rattle.arbiter.proofs.inner.check_step.Statement.{statement}
 use Rattle.arbiter.proofs.inner.check_step.Tie as tie
 
-check-requires : tie.Need-check-requires
-check-requires c κs = search needs
-
-check-position-requires : tie.Need-check-position-requires
-check-position-requires c κs = search needs
-
-check-arrivals-requires : tie.Need-check-arrivals-requires
-check-arrivals-requires c κs = search needs
-
-or-else-requires : tie.Need-or-else-requires
-or-else-requires c κs = search needs
-
-or-else-requires-2 : tie.Need-or-else-requires-2
-or-else-requires-2 c κs = search needs
-
 returns : tie.Need-returns
 unfolding stepCheck
 returns c =
@@ -32,9 +17,9 @@ pub check-step-spec : {M : Type 1} → statement M
 check-step-spec =
     tie.close
     (tie.spec
-    check-requires
-    check-position-requires
-    check-arrivals-requires
-    or-else-requires
-    or-else-requires-2
+    (λ c κs. search needs)
+    (λ c κs. search needs)
+    (λ c κs. search needs)
+    (λ c κs. search needs)
+    (λ c κs. search needs)
     returns)

@@ -10,15 +10,6 @@ use Rattle.arbiter.proofs.inner.serve.Tie as tie
 returns : tie.Need-returns
 returns c = (served-idle _ _ (omega arith), less-none 0 _ (omega arith))
 
-element-copy-out-count : tie.Need-element-copy-out-count
-element-copy-out-count c = search needs
-
-sub-counts : tie.Need-sub-counts
-sub-counts c = search needs
-
-element-write-counts : tie.Need-element-write-counts
-element-write-counts c = search needs
-
 returns-2 : tie.Need-returns-2
 returns-2 c = (served-owner _ _ (omega arith) (omega arith), less-some _ _ (omega arith))
 
@@ -26,4 +17,12 @@ returns-3 : tie.Need-returns-3
 returns-3 c = (served-nobody _ _ (omega arith) (omega arith), less-none 0 _ (omega arith))
 
 pub serve-spec : {M : Type 1} → statement M
-serve-spec = tie.close (tie.spec returns element-copy-out-count sub-counts element-write-counts returns-2 returns-3)
+serve-spec =
+    tie.close
+    (tie.spec
+    returns
+    (λ c. search needs)
+    (λ c. search needs)
+    (λ c. search needs)
+    returns-2
+    returns-3)

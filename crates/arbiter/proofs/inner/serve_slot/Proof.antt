@@ -14,9 +14,6 @@ array-read-wide c =
     let ok = step-fine _ _ _ (c .before .before .pre) in
     omega (arith, ok .below, ok .checked .bounds .f-high)
 
-wide-requires : tie.Need-wide-requires
-wide-requires c κs = search needs
-
 arrive-requires : tie.Need-arrive-requires
 arrive-requires c κs =
     let args = c .before .before .before .before .before .args in
@@ -40,4 +37,4 @@ returns c =
     (rw (arrived .0, owner) at (served .0), rw (arrived .0) at (served .1), arrived .1)
 
 pub serve-slot-spec : {M : Type 1} → statement M
-serve-slot-spec = tie.close (tie.spec array-read-wide wide-requires arrive-requires serve-requires returns)
+serve-slot-spec = tie.close (tie.spec array-read-wide (λ c κs. search needs) arrive-requires serve-requires returns)

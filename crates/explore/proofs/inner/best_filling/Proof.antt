@@ -8,9 +8,6 @@ use Rattle.explore.proofs.Seen.{explored-all}
 use Rattle.explore.proofs.inner.best_filling.Statement.{statement}
 use Rattle.explore.proofs.inner.best_filling.Tie as tie
 
-add-t8 : tie.Need-add-t8
-add-t8 c = search needs
-
 explore-requires : tie.Need-explore-requires
 explore-requires c κs = (front-none (c .args .n) (omega arith), omega arith, omega arith, omega arith)
 
@@ -20,4 +17,4 @@ returns c =
     explored-all (args .trees .now) (args .g) (args .n) _ _ (c .before .pre .2) (c .explore .ensures)
 
 pub best-filling-spec : {M : Type 1} → statement M
-best-filling-spec = tie.close (tie.spec add-t8 explore-requires returns)
+best-filling-spec = tie.close (tie.spec (λ c. search needs) explore-requires returns)

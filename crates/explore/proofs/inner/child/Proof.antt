@@ -6,12 +6,6 @@ use borrow.Author.Tests.{eq-eqb, ne-eqb}
 use Rattle.explore.proofs.inner.child.Statement.{statement}
 use Rattle.explore.proofs.inner.child.Tie as tie
 
-mul-below : tie.Need-mul-below
-mul-below c = search needs
-
-add-result : tie.Need-add-result
-add-result c = search needs
-
 returns : tie.Need-returns
 returns c = simp (eq-eqb _ _ (c .if1 .taken))
 
@@ -19,4 +13,4 @@ returns-2 : tie.Need-returns-2
 returns-2 c = simp (ne-eqb _ _ (c .if1 .left), add-zero)
 
 pub child-spec : {M : Type 1} → statement M
-child-spec = tie.close (tie.spec mul-below add-result returns returns-2)
+child-spec = tie.close (tie.spec (λ c. search needs) (λ c. search needs) returns returns-2)

@@ -30,29 +30,8 @@ written f l i x room so e =
 loop-holds : tie.Need-loop-holds Inv-loop μ-loop
 loop-holds c = (omega arith, search needs, λ j l. absurd (omega arith))
 
-mul-node : tie.Need-mul-node Inv-loop μ-loop
-mul-node c = search needs
-
-array-read-node : tie.Need-array-read-node Inv-loop μ-loop
-array-read-node c = search needs
-
-add-child : tie.Need-add-child Inv-loop μ-loop
-add-child c = search needs
-
 child-requires : tie.Need-child-requires Inv-loop μ-loop
 child-requires c κs = c .before .before .pre .1 (c .before .loop .i) (omega arith)
-
-mul-below : tie.Need-mul-below Inv-loop μ-loop
-mul-below c = search needs
-
-array-write-below : tie.Need-array-write-below Inv-loop μ-loop
-array-write-below c = search needs
-
-add-i : tie.Need-add-i Inv-loop μ-loop
-add-i c = search needs
-
-loop-less : tie.Need-loop-less Inv-loop μ-loop
-loop-less c = search needs
 
 loop-again : tie.Need-loop-again Inv-loop μ-loop
 loop-again c =
@@ -78,13 +57,13 @@ children-spec =
     Inv-loop
     μ-loop
     loop-holds
-    mul-node
-    array-read-node
-    add-child
+    (λ c. search needs)
+    (λ c. search needs)
+    (λ c. search needs)
     child-requires
-    mul-below
-    array-write-below
-    add-i
-    loop-less
+    (λ c. search needs)
+    (λ c. search needs)
+    (λ c. search needs)
+    (λ c. search needs)
     loop-again
     returns)

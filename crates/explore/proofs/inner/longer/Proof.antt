@@ -16,15 +16,6 @@ children-requires c κs =
     let args = c .before .before .args in
     (omega arith, nodes-small (args .n) (args .front) (c .before .before .pre .0))
 
-cast-owners : tie.Need-cast-owners
-cast-owners c = search needs
-
-array-write-owners : tie.Need-array-write-owners
-array-write-owners c = search needs
-
-add-t12 : tie.Need-add-t12
-add-t12 c = search needs
-
 returns : tie.Need-returns
 returns c =
     let start = c .before .before .before .before in
@@ -41,4 +32,4 @@ returns c =
 pub longer-spec : {M : Type 1} → statement M
 longer-spec =
     tie.close
-    (tie.spec with-place-requires children-requires cast-owners array-write-owners add-t12 returns)
+    (tie.spec with-place-requires children-requires (λ c. search needs) (λ c. search needs) (λ c. search needs) returns)

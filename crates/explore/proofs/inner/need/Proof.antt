@@ -20,15 +20,6 @@ abbrev μ-loop : tie.MeasureT-loop
 loop-holds : tie.Need-loop-holds Inv-loop μ-loop
 loop-holds c = (omega arith, sym (need-none _ _), omega arith)
 
-mul-node : tie.Need-mul-node Inv-loop μ-loop
-mul-node c = search needs
-
-array-read-node : tie.Need-array-read-node Inv-loop μ-loop
-array-read-node c = search needs
-
-mul-wide : tie.Need-mul-wide Inv-loop μ-loop
-mul-wide c = search needs
-
 add-wide : tie.Need-add-wide Inv-loop μ-loop
 add-wide c =
     let loop = c .before .loop in
@@ -38,18 +29,6 @@ element-copy-out-wide : tie.Need-element-copy-out-wide Inv-loop μ-loop
 element-copy-out-wide c =
     let loop = c .before .loop in
     omega (arith, c .before .before .pre .1 (loop .i) (omega arith))
-
-wide-requires : tie.Need-wide-requires Inv-loop μ-loop
-wide-requires c κs = search needs
-
-add-more : tie.Need-add-more Inv-loop μ-loop
-add-more c = search needs
-
-add-i : tie.Need-add-i Inv-loop μ-loop
-add-i c = search needs
-
-loop-less : tie.Need-loop-less Inv-loop μ-loop
-loop-less c = search needs
 
 loop-again : tie.Need-loop-again Inv-loop μ-loop
 loop-again c =
@@ -71,14 +50,14 @@ need-spec =
     Inv-loop
     μ-loop
     loop-holds
-    mul-node
-    array-read-node
-    mul-wide
+    (λ c. search needs)
+    (λ c. search needs)
+    (λ c. search needs)
     add-wide
     element-copy-out-wide
-    wide-requires
-    add-more
-    add-i
-    loop-less
+    (λ c κs. search needs)
+    (λ c. search needs)
+    (λ c. search needs)
+    (λ c. search needs)
     loop-again
     returns)

@@ -6,9 +6,6 @@ use borrow.Author.Tests.{eq-eqb, ne-eqb}
 use Rattle.explore.proofs.inner.with_place.Statement.{statement}
 use Rattle.explore.proofs.inner.with_place.Tie as tie
 
-add-result : tie.Need-add-result
-add-result c = search needs
-
 returns : tie.Need-returns
 returns c = simp (eq-eqb _ _ (c .if1 .taken), add-zero)
 
@@ -16,4 +13,4 @@ returns-2 : tie.Need-returns-2
 returns-2 c = simp (ne-eqb _ _ (c .if1 .left))
 
 pub with-place-spec : {M : Type 1} → statement M
-with-place-spec = tie.close (tie.spec add-result returns returns-2)
+with-place-spec = tie.close (tie.spec (λ c. search needs) returns returns-2)

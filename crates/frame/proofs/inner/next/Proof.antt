@@ -15,12 +15,6 @@ below f at l = let r : suc at < f = omega arith in rw (mod-eq-of-lt r) (omega ar
 last : (f at : ℕ) → at < f → f ≤ at + 1 → 0 ≡ nextOf f at
 last f at l h = let e : suc at ≡ f = omega arith in rw e (sym (mod-self f))
 
-add-if1 : tie.Need-add-if1
-add-if1 c = search needs
-
-add-result : tie.Need-add-result
-add-result c = search needs
-
 returns : tie.Need-returns
 returns c = below (c .before .args .f) (c .before .args .at) (omega arith)
 
@@ -28,4 +22,4 @@ returns-2 : tie.Need-returns-2
 returns-2 c = last (c .before .args .f) (c .before .args .at) (omega arith) (omega arith)
 
 pub next-spec : {M : Type 1} → statement M
-next-spec = tie.close (tie.spec add-if1 add-result returns returns-2)
+next-spec = tie.close (tie.spec (λ c. search needs) (λ c. search needs) returns returns-2)

@@ -5,21 +5,6 @@ use borrow.Author.Needs.{needs}
 use Rattle.records.proofs.inner.put_word.Statement.{statement}
 use Rattle.records.proofs.inner.put_word.Tie as tie
 
-cast-put-byte : tie.Need-cast-put-byte
-cast-put-byte c = search needs
-
-put-byte-requires : tie.Need-put-byte-requires
-put-byte-requires c κs = search needs
-
-cast-put-byte-2 : tie.Need-cast-put-byte-2
-cast-put-byte-2 c = search needs
-
-put-byte-requires-2 : tie.Need-put-byte-requires-2
-put-byte-requires-2 c κs = search needs
-
-same-length : tie.Need-same-length
-same-length c = search needs
-
 returns : tie.Need-returns
 returns c =
     let put-byte = c .before .before .before .before .before .before .put-byte in
@@ -29,9 +14,9 @@ pub put-word-spec : {M : Type 1} → statement M
 put-word-spec =
     tie.close
     (tie.spec
-    cast-put-byte
-    put-byte-requires
-    cast-put-byte-2
-    put-byte-requires-2
-    same-length
+    (λ c. search needs)
+    (λ c κs. search needs)
+    (λ c. search needs)
+    (λ c κs. search needs)
+    (λ c. search needs)
     returns)

@@ -11,9 +11,6 @@ put-digits-requires c κs =
     let start = c .before .before in
     omega (arith, twenty-most (start .args .x) (start .fits .x .fits))
 
-same-length : tie.Need-same-length
-same-length c = search needs
-
 returns : tie.Need-returns
 returns c =
     let start = c .before .before .before .before .before in
@@ -21,4 +18,4 @@ returns c =
     (put, omega (arith, put .place, twenty-most (start .args .x) (start .fits .x .fits)))
 
 pub put-decimal-spec : {M : Type 1} → statement M
-put-decimal-spec = tie.close (tie.spec put-digits-requires same-length returns)
+put-decimal-spec = tie.close (tie.spec put-digits-requires (λ c. search needs) returns)
