@@ -11,8 +11,8 @@ use native.Mathlib.Omega.{arith}
 use lib.ListN.{length, getD, take, replicate, length-replicate, length-map, getD-replicate}
 use Rattle.frame.specs.Frame.{Frame, IsScaled}
 use Rattle.frame.specs.Queue.{mostPending, mostArriving, Arrivals, taken, served}
-use Rattle.frame.specs.Service.{Busy, Satisfies}
-use Rattle.frame.proofs.Latency.{in-time-exactly}
+use Rattle.frame.specs.Service.{Busy, Satisfies, SatisfiesEmpty}
+use Rattle.frame.proofs.Latency.{latency-least-empty, in-time-exactly}
 use Rattle.records.specs.declared.Outcome.the-variants.{Fine}
 use Rattle.plan.specs.declared.Plan.{Plan}
 use Rattle.plan.specs.Plan.{ownOf}
@@ -20,7 +20,8 @@ use Rattle.plan.specs.Check.{planCheck}
 use Rattle.plan.proofs.Laws.{plan-fine}
 use Rattle.arbiter.specs.declared.Arbiter.{Arbiter}
 use Rattle.arbiter.specs.Step.{ruleOf, countOf, arrivedOf}
-use Rattle.arbiter.specs.Run.{Runs, servedOf, takenOf, Typed, slotsIn, BusyOf, SatisfiesOf, IsLatencyOf}
+use Rattle.arbiter.specs.Run.{Runs, servedOf, takenOf, Typed, slotsIn, BusyOf, SatisfiesOf, SatisfiesEmptyOf}
+use Rattle.arbiter.specs.Run.{IsLatencyOf}
 use Rattle.arbiter.proofs.Laws.{rule-lawful}
 use Rattle.arbiter.proofs.Runs.{mine, mine-first, mine-length, mine-at, runs-first, served-is, taken-is}
 use Rattle.arbiter.proofs.Runs.{served-run, taken-run}
@@ -129,6 +130,13 @@ module _ (plan : Plan) (i : ℕ) (i< : i < plan .n) where
       (sat (alike s v) (spread (plan .n) xs) (alike-typed checked s v xs v≤ arrivals)
       (alike-runs checked s v xs) (alike-busy checked s v xs busy))
 
+  empty-satisfy : planCheck plan ≡ Fine → (x y : ℕ) → SatisfiesEmptyOf plan i x y
+      → SatisfiesEmpty (ruleOf plan i) (ownOf plan (i + 1)) (plan .f) (slotsIn plan i) x y
+  empty-satisfy checked x y sat s xs arrivals busy =
+      rw (alike-served checked s 0 xs, spread-length (plan .n) xs) at
+      (sat (alike s 0) (spread (plan .n) xs) (alike-count checked s 0 xs)
+      (alike-typed checked s 0 xs (omega arith) arrivals) (alike-runs checked s 0 xs) (alike-busy checked s 0 xs busy))
+
   -- ---- so L/m is the latency of the arbiter's runs
 
   module _ {L : ℕ} (checked : planCheck plan ≡ Fine)
@@ -140,6 +148,12 @@ module _ (plan : Plan) (i : ℕ) (i< : i < plan .n) where
         let f≤ = plan-fine plan checked .bounds .f-high in
         let one = in-time-exactly (ruleOf plan i) frame (rule-lawful plan i) f≤ scaled a b in
         (λ l. satisfies-runs a b (one .0 l), λ sat. one .1 (runs-satisfy checked a b sat))
+
+    -- no smaller one satisfies it even in the busy periods that start with an empty queue
+    pub least-empty-runs : (x y : ℕ) → SatisfiesEmptyOf plan i x y → L * y ≤ x * slotsIn plan i
+    least-empty-runs x y sat =
+        let f≤ = plan-fine plan checked .bounds .f-high in
+        latency-least-empty (ruleOf plan i) frame (rule-lawful plan i) f≤ scaled x y (empty-satisfy checked x y sat)
 
     pub latency-runs : 0 < slotsIn plan i → IsLatencyOf plan i L (slotsIn plan i)
     latency-runs m> =

@@ -99,6 +99,12 @@ module _ (plan : Plan) (i : ℕ) where
       (arb : Arbiter) (xss : List (List ℕ)) → Typed arb xss → Runs plan arb xss → BusyOf arb xss
       → Guaranteed slotsIn (plan .f) x y (length xss) (servedOf plan i arb xss)
 
+  -- the same asked only of the busy periods that start with an empty queue
+  abbrev pub SatisfiesEmptyOf : ℕ → ℕ → Type 0
+  SatisfiesEmptyOf x y =
+      (arb : Arbiter) (xss : List (List ℕ)) → countOf arb i ≡ 0 → Typed arb xss → Runs plan arb xss → BusyOf arb xss
+      → Guaranteed slotsIn (plan .f) x y (length xss) (servedOf plan i arb xss)
+
   -- "The minimum non-negative constant satisfying the equation is the service latency": of all fractions, it is x/y
   pub record IsLatencyOf (x y : ℕ) : Type 0 where
     pub y> : 0 < y

@@ -13,15 +13,15 @@ use Rattle.records.specs.declared.Outcome.the-variants.{Fine, Refused}
 use Rattle.records.proofs.Checks.{refuses}
 use Rattle.records.proofs.Parts.{run, part-run}
 use Rattle.plan.specs.declared.Plan.{Plan}
-use Rattle.plan.specs.Plan.{ownerOf}
+use Rattle.plan.specs.Plan.{ownerOf, withTable}
 use Rattle.stream.specs.Read.{readOf}
-use Rattle.stream.specs.Write.{streamOf}
+use Rattle.stream.specs.Write.{streamOf, longest}
 use Rattle.stream.specs.declared.Reading.{Reading}
 use Rattle.stream.proofs.Lengths.{length-stream}
 use Rattle.search.specs.declared.Finding.{Finding}
 use Rattle.search.specs.declared.Finding.the-variants as finding
 use Rattle.search.specs.declared.Searched.{Searched}
-use Rattle.search.specs.Search.{idlePlan, searchCheck, withTable, SearchedAs, searchedNumber}
+use Rattle.search.specs.Search.{idlePlan, searchCheck, SearchedAs, searchedNumber}
 use Rattle.search.proofs.Questions.{search-fine}
 use Rattle.search.proofs.Same.{check-idle}
 use Rattle.arbiter.specs.declared.Arbiter.{Arbiter}
@@ -101,7 +101,7 @@ listed e f = rw e (rw f)
 -- the output has room for it
 pub found-fits : (plan : Plan) (a : Finding) (owners : List ℕ)
     → SearchedAs (idlePlan (plan .f) (plan .n) (plan .clients)) a owners → a ≡ finding.Found
-    → (plan .f ≤ 64) × (plan .n ≤ 8) × (length (streamOf (withTable plan owners)) ≤ 156)
+    → (plan .f ≤ 64) × (plan .n ≤ 8) × (length (streamOf (withTable plan owners)) ≤ longest)
 found-fits plan a owners is e =
     let idle = idlePlan (plan .f) (plan .n) (plan .clients) in
     let ok = search-fine idle (subst (λ (x : Finding). SearchedAs idle x owners) e is .0) in

@@ -7,6 +7,8 @@ use Prim.Native.Nat.{ℕ}
 use Rattle.records.specs.Put.{Put}
 use Rattle.plan.specs.declared.Plan.{Plan}
 use Rattle.stream.specs.Read.{readOf}
+use Rattle.stream.specs.Write.{writtenNumber, writtenSize}
+use Rattle.stream.proofs.Trips.{copied-once}
 use Rattle.figures.specs.Figures.{figuresNumber, IsFigures, waitNumber, IsWaitFor}
 use Rattle.figures.proofs.Once.{figures-once, waits-once}
 use Rattle.judge.specs.Judge.{judgedNumber, IsJudged, verdictNumber, IsVerdictOf}
@@ -16,15 +18,13 @@ use Rattle.search.specs.Search.{idlePlan, searchedNumber}
 use Rattle.search.proofs.Once.{searched-once}
 use Rattle.arbiter.specs.declared.Stepped.{Stepped}
 use Rattle.arbiter.specs.Step.{stepNumber}
-use Rattle.promises.proofs.Demand1.{once, rewritten-once}
-use Rattle.stream.specs.Write.{writtenNumber, writtenSize}
 use Rattle.capi.specs.Calls.{figureNumbers, waitNumbers, judgedNumbers, verdictNumbers}
 use Rattle.capi.specs.Calls.{ToldRead, firstNumber, Told, ToldWrite, foundStream, ToldSearch, ToldStep}
 use Rattle.capi.specs.Calls.{recordBytes, answerBytes}
 
 pub read-told-once : (s : List ℕ) {r r′ offset offset′ : ℕ} → ToldRead s r offset → ToldRead s r′ offset′
     → (r ≡ r′) × (offset ≡ offset′)
-read-told-once s h h′ = (once _ _ _ (h .returned) (h′ .returned), once _ _ _ (h .stored) (h′ .stored))
+read-told-once s h h′ = (h .returned ∙ sym (h′ .returned), h .stored ∙ sym (h′ .stored))
 
 -- where what is told is an answer of which there is one
 told-once : {A : Type 0} (Is : Plan → A → Type 0) (number : A → ℕ) (numbers : A → List ℕ)
@@ -67,14 +67,14 @@ module _ (s out : List ℕ) {r r′ size size′ : ℕ} {now now′ : List ℕ} 
       let put : Put out 0 (foundStream plan (h .answer .answer) (h .answer .owners)) now′ size′ = rw e (h′ .put) in (
         h .returned ∙ ap (λ (a : Searched). firstNumber (readOf s .outcome) (searchedNumber (a .answer))) e
             ∙ sym (h′ .returned),
-        once _ _ _ (h .put .place) (put .place),
-        once _ _ _ (h .put .stored) (put .stored),
+        h .put .place ∙ sym (put .place),
+        h .put .stored ∙ sym (put .stored),
       )
 
   pub write-told-once : ToldWrite s out r size now → ToldWrite s out r′ size′ now′
       → (r ≡ r′) × (size ≡ size′) × (now ≡ now′)
   write-told-once h h′ =
-      let e = rewritten-once s out (h .answer) (h′ .answer) now now′ (h .is) (h′ .is) in (
+      let e = copied-once s out (h .answer) (h′ .answer) now now′ (h .is) (h′ .is) in (
         h .returned ∙ ap writtenNumber (e .0) ∙ sym (h′ .returned),
         h .stored ∙ ap writtenSize (e .0) ∙ sym (h′ .stored),
         e .1,
@@ -84,7 +84,7 @@ pub step-told-once : (s bytes xs : List ℕ) {r r′ : ℕ} {after after′ answ
     → ToldStep s bytes xs r after answer → ToldStep s bytes xs r′ after′ answer′
     → (r ≡ r′) × (after ≡ after′) × (answer ≡ answer′)
 step-told-once s bytes xs h h′ =
-    let e = once _ _ _ (h .is) (h′ .is) in (
+    let e = h .is ∙ sym (h′ .is) in (
       h .returned ∙ ap (λ (x : Stepped). firstNumber (readOf s .outcome) (stepNumber (x .answer .service))) e
           ∙ sym (h′ .returned),
       h .kept ∙ ap (λ (x : Stepped). recordBytes (x .next)) e ∙ sym (h′ .kept),

@@ -15,29 +15,30 @@ use Rattle.records.specs.declared.Outcome.{Outcome}
 use Rattle.records.specs.declared.Outcome.the-variants as outcome
 use Rattle.plan.specs.declared.Plan.{Plan}
 use Rattle.plan.specs.Plan.{noPlan}
-use Rattle.plan.specs.Check.{requirementsCheck, planCheck}
+use Rattle.plan.specs.Check.{requirementsCheck, planCheck, askedCheck}
 use Rattle.stream.specs.Read.{planIf, planOf, readOf}
+use Rattle.stream.specs.Trip.{copyCheck}
 use Rattle.stream.specs.Write.{writtenBy, writtenNumber, writtenSize, bytesBy}
 use Rattle.figures.specs.declared.Figures.{Figures}
 use Rattle.figures.specs.declared.Figures.the-variants as figures
 use Rattle.figures.specs.declared.Wait.{Wait}
 use Rattle.figures.specs.declared.Wait.the-variants as wait
-use Rattle.figures.specs.Check.{askedCheck, figureCheck, waitCheck}
+use Rattle.figures.specs.Check.{figureCheck, waitCheck}
 use Rattle.figures.specs.Figures.{figuresNumber, IsFigures, waitNumber, IsWaitFor}
 use Rattle.judge.specs.declared.Judged.{Judged}
 use Rattle.judge.specs.declared.Judged.the-variants as judged
 use Rattle.judge.specs.declared.Verdicts.{Verdicts}
 use Rattle.judge.specs.declared.Verdicts.the-variants as verdicts
 use Rattle.judge.specs.Judge.{judgedNumber, IsJudged, verdictNumber, IsVerdictOf}
+use Rattle.judge.proofs.Once.{judged-number, verdicts-number}
 use Rattle.search.specs.declared.Finding.{Finding}
 use Rattle.search.specs.declared.Finding.the-variants as finding
 use Rattle.search.specs.declared.Searched.{Searched}
-use Rattle.search.specs.Search.{searchCheck, searchedNumber}
+use Rattle.search.specs.Search.{idlePlan, searchCheck, searchedNumber}
+use Rattle.search.proofs.Once.{searched-number}
 use Rattle.arbiter.specs.declared.Stepped.{Stepped}
 use Rattle.arbiter.specs.Step.{advanced, stepCheck, stepOf, stepNumber}
 use Rattle.arbiter.proofs.Slots.{step-number, either}
-use Rattle.promises.specs.Trip.{copyCheck}
-use Rattle.promises.proofs.Demand1.{judge-number, verdict-number, search-number}
 use Rattle.capi.specs.Calls.{figureNumbers, waitNumbers, judgedNumbers, verdictNumbers, firstNumber, Told}
 use Rattle.capi.specs.Calls.{ToldWrite, IsSearchedFor, foundStream, ToldSearch}
 use Rattle.capi.specs.Calls.{recordIn, recordBytes, answerBytes, ToldStep}
@@ -86,7 +87,7 @@ module _ (s : List ℕ) (r : ℕ) (lent : List ℕ) (r> : 0 < r) where
       h .stored ∙ by (h .answer) (told-number IsJudged judgedNumber none s (h .answer) r (h .is) (h .returned) r>)
     where
       none : (a : Judged) → IsJudged noPlan a → 0 < judgedNumber a
-      none a is = omega (arith, judge-number noPlan a is)
+      none a is = omega (arith, judged-number noPlan a is)
 
       by : (a : Judged) → 0 < judgedNumber a → judgedNumbers a ≡ 0 ∷ 0 ∷ 0 ∷ 0 ∷ []
       by (judged.Given found) a> = absurd (omega arith)
@@ -96,7 +97,7 @@ module _ (s : List ℕ) (r : ℕ) (lent : List ℕ) (r> : 0 < r) where
   unfolding askedCheck planCheck requirementsCheck rangeCheck
   verdict-zero c h =
       h .stored ∙ by (h .answer)
-      (told-number (λ plan. IsVerdictOf plan c) verdictNumber (λ a is. omega (arith, verdict-number noPlan c a is .0)) s
+      (told-number (λ plan. IsVerdictOf plan c) verdictNumber (λ a is. omega (arith, verdicts-number noPlan c a is)) s
       (h .answer) r (h .is) (h .returned) r>)
     where
       by : (a : Verdicts) → 0 < verdictNumber a → verdictNumbers a ≡ 0 ∷ []
@@ -112,7 +113,7 @@ module _ (s out : List ℕ) (r size : ℕ) (now : List ℕ) (r> : 0 < r) where
       (h .put)
     where
       none : (a : Searched) → IsSearchedFor noPlan a → 0 < searchedNumber (a .answer)
-      none a is = omega (arith, search-number 0 0 (noPlan .clients) a is .0)
+      none a is = omega (arith, searched-number (idlePlan 0 0 (noPlan .clients)) (a .answer) (a .owners) is)
 
       by : (a : Finding) → 0 < searchedNumber a
           → Put out 0 (foundStream (readOf s .plan) a (h .answer .owners)) now size → (size ≡ 0) × (now ≡ out)

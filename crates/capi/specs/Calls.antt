@@ -11,7 +11,9 @@ use Rattle.records.specs.Put.{Put}
 use Rattle.records.specs.declared.Outcome.{Outcome}
 use Rattle.records.specs.declared.Outcome.the-variants as outcome
 use Rattle.plan.specs.declared.Plan.{Plan}
+use Rattle.plan.specs.Plan.{withTable}
 use Rattle.stream.specs.Read.{readOf}
+use Rattle.stream.specs.Trip.{Copied}
 use Rattle.stream.specs.Write.{streamOf, writtenNumber, writtenSize}
 use Rattle.stream.specs.declared.Written.{Written}
 use Rattle.figures.specs.declared.Figures.{Figures}
@@ -28,12 +30,11 @@ use Rattle.judge.specs.Judge.{acceptance}
 use Rattle.search.specs.declared.Finding.{Finding}
 use Rattle.search.specs.declared.Finding.the-variants as finding
 use Rattle.search.specs.declared.Searched.{Searched}
-use Rattle.search.specs.Search.{idlePlan, withTable, IsSearched, searchedNumber}
+use Rattle.search.specs.Search.{idlePlan, IsSearched, searchedNumber}
 use Rattle.arbiter.specs.declared.Answer.{Answer}
 use Rattle.arbiter.specs.declared.Arbiter.{Arbiter}
 use Rattle.arbiter.specs.declared.Stepped.{Stepped}
 use Rattle.arbiter.specs.Step.{stepOf, stepNumber, clientServed}
-use Rattle.promises.specs.Trip.{Copied}
 
 -- ---- an answer's numbers, in the order in which they are stored
 

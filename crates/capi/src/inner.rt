@@ -1,5 +1,4 @@
 // Answers stored in lent numbers and bytes; the number returned is the refusal's, 0 where nothing is refused.
-use super::LONGEST;
 use super::RECORD;
 use arbiter::Arbiter;
 use arbiter::Service;
@@ -10,10 +9,12 @@ use judge::Judged;
 use judge::Verdict;
 use judge::Verdicts;
 use plan::Plan;
+use plan::with_table;
 use records::Outcome;
 use records::wide;
 use search::Finding;
 use search::Searched;
+use stream::LONGEST;
 use stream::Written;
 use stream::writer::put_stream;
 ghost use mathlib.Core.Path.{_≡_};
@@ -178,16 +179,9 @@ pub fn tell_searched(
 {
     let answer = searched.answer;
     let owners = searched.owners;
-    let clients = plan.clients;
     match answer {
         Finding::Found => {
-            let found = Plan {
-                f: plan.f,
-                n: plan.n,
-                clients: clients,
-                owners: owners,
-            };
-            *length = put_stream(out, found);
+            *length = put_stream(out, with_table(plan, owners));
             0
         },
         Finding::None => {

@@ -10,18 +10,16 @@ use records::Outcome;
 use search::Finding;
 use search::Searched;
 use search::inner::check_search;
+use stream::LONGEST;
 use text::PAGE;
 ghost use mathlib.Core.List.{_∷_, []};
 ghost use Rattle.plan.specs.Plan.{defaultWaiting};
-ghost use Rattle.text.specs.Text.{Puts};
+ghost use Rattle.text.specs.Text.{Puts, Lendable};
 ghost use Rattle.figures.specs.Figures.{IsFigures, figuresNumber, IsWaitFor, waitNumber};
 ghost use Rattle.judge.specs.Judge.{IsJudged, judgedNumber, IsVerdictOf, verdictNumber};
 ghost use Rattle.listing.specs.Listing.{IsReport, IsHoming};
 ghost use Rattle.capi.specs.Calls.{figureNumbers, waitNumbers, judgedNumbers, verdictNumbers};
 ghost use Rattle.capi.specs.Calls.{ToldRead, Told, ToldWrite, ToldSearch, ToldStep};
-
-// The bytes of the longest plan stream.
-pub const LONGEST: usize = 156;
 
 // The bytes of an arbiter's record, and of a step's answer.
 pub const RECORD: usize = 9;
@@ -153,7 +151,7 @@ pub extern "C" fn gwelathur_search_whole(
 pub extern "C" fn gwelathur_write(s: &[u8], out: &mut [u8], length: &mut usize) -> usize
     ensures { λ r. ⌜ ToldWrite (now (s .entry)) (now (out .entry)) r (now (length .exit)) (now (out .exit)) ⌝ }
 {
-    let answer = promises::rewritten(s, out);
+    let answer = stream::rewritten(s, out);
     inner::tell_written(answer, length)
 }
 
@@ -181,6 +179,7 @@ pub extern "C" fn gwelathur_step(
 #[no_mangle]
 pub extern "C" fn gwelathur_report(s: &[u8], page: &mut [u8; PAGE]) -> usize
     ensures { λ r. ⌜ Puts (IsReport (now (s .entry))) (now (page .entry)) 0 (now (page .exit)) r ⌝ }
+    ensures { λ r. ⌜ Lendable r (now (page .exit)) ⌝ }
 {
     listing::report(s, page)
 }
@@ -189,6 +188,7 @@ pub extern "C" fn gwelathur_report(s: &[u8], page: &mut [u8; PAGE]) -> usize
 #[no_mangle]
 pub extern "C" fn gwelathur_homing(s: &[u8], page: &mut [u8; PAGE]) -> usize
     ensures { λ r. ⌜ Puts (IsHoming (now (s .entry))) (now (page .entry)) 0 (now (page .exit)) r ⌝ }
+    ensures { λ r. ⌜ Lendable r (now (page .exit)) ⌝ }
 {
     listing::homing(s, page)
 }

@@ -1,5 +1,5 @@
--- Questions about a client: one passes exactly when its plan is checked, it names a client and that client owns a slot;
--- each refusal has its number.
+-- Questions about a client's figures and waits: one passes exactly when its plan is checked, it names a client and that
+-- client owns a slot; each refusal has its number.
 -- Assumes nothing.
 use mathlib.Core.Path.{_≡_}
 use Prim.Native.Nat.{ℕ, _≤_, _<_}
@@ -8,16 +8,16 @@ use lib.Dec.{leb}
 use borrow.Author.Tests.{le-leb, lt-leb, leb-true}
 use Rattle.frame.specs.Frame.{slotsOf}
 use Rattle.records.specs.Refusal as refusal
-use Rattle.records.specs.First.{rangeCheck, Numbered}
+use Rattle.records.specs.First.{Numbered}
 use Rattle.records.specs.declared.Outcome.the-variants as outcome
 use Rattle.records.proofs.Checks.{both-fine, need-fine, range-fine, range-pass}
 use Rattle.records.proofs.Refusals.{or-each, need-numbered, range-numbered}
 use Rattle.plan.specs.declared.Plan.{Plan}
 use Rattle.plan.specs.Plan.{ownOf}
-use Rattle.plan.specs.Check.{planCheck}
-use Rattle.plan.proofs.Laws.{Checked, plan-fine, plan-pass}
-use Rattle.plan.proofs.Refusals.{plan-numbered}
-use Rattle.figures.specs.Check.{askedCheck, ownsCheck, figureCheck, mostWaiting, waitingCheck, waitCheck}
+use Rattle.plan.specs.Check.{askedCheck}
+use Rattle.plan.proofs.Laws.{Checked, asked-fine, asked-pass}
+use Rattle.plan.proofs.Refusals.{asked-numbered}
+use Rattle.figures.specs.Check.{ownsCheck, figureCheck, mostWaiting, waitingCheck, waitCheck}
 
 -- ---- figures
 
@@ -29,28 +29,11 @@ pub owns-some : (plan : Plan) (c : ℕ) → 1 ≤ slotsOf (ownOf plan c) (plan .
 owns-some plan c l = simp (le-leb 1 (slotsOf (ownOf plan c) (plan .f)) l)
 
 -- "Each refusal has its number"
-pub asked-numbered : (most : ℕ) → refusal.asked ≤ most → (plan : Plan) (c : ℕ) → Numbered most (askedCheck plan c)
-unfolding askedCheck
-asked-numbered most h plan c =
-    or-each (Numbered most) (planCheck plan) (rangeCheck c (plan .n) refusal.asked)
-    (plan-numbered most (omega arith) plan) (range-numbered most c (plan .n) refusal.asked (omega arith) h)
-
 pub figure-numbered : (most : ℕ) → refusal.noSlot ≤ most → (plan : Plan) (c : ℕ) → Numbered most (figureCheck plan c)
 unfolding figureCheck
 figure-numbered most h plan c =
     or-each (Numbered most) (askedCheck plan c) (ownsCheck plan c) (asked-numbered most (omega arith) plan c)
     (need-numbered most (leb 1 (slotsOf (ownOf plan c) (plan .f))) refusal.noSlot 0 (omega arith) h)
-
-pub asked-fine : (plan : Plan) (c : ℕ) → askedCheck plan c ≡ outcome.Fine → Checked plan × (1 ≤ c) × (c ≤ plan .n)
-unfolding askedCheck
-asked-fine plan c h =
-    let a = both-fine _ _ h in
-    let r = range-fine c (plan .n) refusal.asked (a .1) in
-    (plan-fine plan (a .0), r .0, r .1)
-
-pub asked-pass : (plan : Plan) (c : ℕ) → Checked plan → 1 ≤ c → c ≤ plan .n → askedCheck plan c ≡ outcome.Fine
-unfolding askedCheck
-asked-pass plan c ok low high = rw (plan-pass plan ok) (range-pass c (plan .n) refusal.asked low high)
 
 -- what a plan and a client have that pass
 pub record Asked (plan : Plan) (c : ℕ) : Type 0 where

@@ -8,12 +8,13 @@ use Rattle.records.specs.declared.Outcome.the-variants.{Fine, Refused}
 use Rattle.records.proofs.Checks.{both-fine}
 use Rattle.plan.specs.declared.Plan.{Plan}
 use Rattle.plan.specs.Plan.{ownOf, Same}
-use Rattle.plan.proofs.Laws.{same-check, own-same}
+use Rattle.plan.specs.Check.{askedCheck}
+use Rattle.plan.proofs.Laws.{asked-fine, same-asked, own-same}
 use Rattle.figures.specs.declared.Figures.{Figures}
 use Rattle.figures.specs.declared.Wait.{Wait}
-use Rattle.figures.specs.Check.{askedCheck, ownsCheck, figureCheck, waitCheck}
+use Rattle.figures.specs.Check.{ownsCheck, figureCheck, waitCheck}
 use Rattle.figures.specs.Figures.{IsFigure, figureIn, IsFigures, Waits, waitIn, IsWaitFor}
-use Rattle.figures.proofs.Questions.{asked-fine, figure-fine}
+use Rattle.figures.proofs.Questions.{figure-fine}
 
 or-same : (x x′ y y′ : Outcome) → x ≡ x′ → (x ≡ Fine → y ≡ y′) → orElse x y ≡ orElse x′ y′
 or-same Fine x′ y y′ e h = rw (← e) (h refl)
@@ -23,14 +24,11 @@ module _ (plan other : Plan) (same : Same plan other) (c : ℕ) where
   slots-same : 0 < plan .f → ownOf plan c ≡ ownOf other c
   slots-same f> = fun-ext (own-same plan other same f> c)
 
-  pub asked-check-same : askedCheck plan c ≡ askedCheck other c
-  unfolding askedCheck
-  asked-check-same = rw (same-check plan other same, same .count)
-
   pub figure-check-same : figureCheck plan c ≡ figureCheck other c
   unfolding figureCheck
   figure-check-same =
-      or-same (askedCheck plan c) (askedCheck other c) (ownsCheck plan c) (ownsCheck other c) asked-check-same (λ h.
+      let asked = same-asked plan other same c in
+      or-same (askedCheck plan c) (askedCheck other c) (ownsCheck plan c) (ownsCheck other c) asked (λ h.
       rw (slots-same (asked-fine plan c h .0 .bounds .f-low), same .frame))
 
   pub wait-check-same : (k : ℕ) → waitCheck plan c k ≡ waitCheck other c k

@@ -1,5 +1,5 @@
--- What a question about a client is refused for: "figures 13, 14; waits 13, 14, 15", after the plan's own checks
--- (document 01, Refusal numbers).
+-- What figures and waits are refused for: "figures 13, 14; waits 13, 14, 15", after the plan's own checks (document 01,
+-- Refusal numbers).
 use Prim.Native.Nat.{ℕ}
 use lib.Dec.{leb}
 use Rattle.frame.specs.Frame.{slotsOf}
@@ -8,11 +8,7 @@ use Rattle.records.specs.First.{need, rangeCheck, orElse}
 use Rattle.records.specs.declared.Outcome.{Outcome}
 use Rattle.plan.specs.declared.Plan.{Plan}
 use Rattle.plan.specs.Plan.{ownOf}
-use Rattle.plan.specs.Check.{planCheck}
-
--- the plan's checks, then 13: the client asked about is not 1 to n
-unfoldable pub askedCheck : Plan → ℕ → Outcome
-askedCheck plan c = orElse (planCheck plan) (rangeCheck c (plan .n) refusal.asked)
+use Rattle.plan.specs.Check.{askedCheck}
 
 -- 14: that client owns no slot
 abbrev pub ownsCheck : Plan → ℕ → Outcome

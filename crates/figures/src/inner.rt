@@ -1,4 +1,4 @@
-// The checks of a question about a client, and the figures of a plan that is checked: f is 1 to 64.
+// The figures of a plan that is checked: f is 1 to 64.
 use super::Figure;
 use super::Figures;
 use super::MOST_WAITING;
@@ -7,25 +7,17 @@ use frame::inner::next;
 use plan::Plan;
 use records::Outcome;
 use records::check_range;
-use records::or_else;
 use records::refusal;
 use records::wide;
 ghost use mathlib.Core.Path.{_≡_};
 ghost use Prim.Native.Nat.{_-_, _*_, _≤_, _<_, max};
 ghost use Rattle.frame.specs.Frame.{slotsOf, IsScaled, IsWait};
 ghost use Rattle.frame.specs.Largest.{lackFrom};
+ghost use Rattle.records.specs.declared.Outcome.the-variants.{Fine};
 ghost use Rattle.plan.specs.Plan.{isClient, ownOf};
-ghost use Rattle.figures.specs.Check.{askedCheck, mostWaiting};
+ghost use Rattle.plan.specs.Check.{askedCheck};
+ghost use Rattle.figures.specs.Check.{mostWaiting};
 ghost use Rattle.figures.specs.Figures.{IsFigure, IsFigures, IsWaitFor};
-
-// The plan's checks, then 13.
-pub fn check_asked(plan: Plan, client: usize) -> Outcome
-    ensures { λ r. ⌜ r ≡ askedCheck plan client ⌝ }
-{
-    let checked = plan::check(plan);
-    let asked = check_range(client, plan.n, refusal::ASKED);
-    or_else(checked, asked)
-}
 
 // 1 where a slot's owner is the client, else 0.
 pub fn owned_by(owner: u8, client: usize) -> usize
@@ -114,6 +106,18 @@ pub fn figure(plan: Plan, client: usize, m: usize) -> Figure
         slots: m,
         scaled: l,
     }
+}
+
+// The figure of a client that can be asked about: 14.
+pub fn figures_of(plan: Plan, client: usize) -> Figures
+    requires { ⌜ askedCheck plan client ≡ Fine ⌝ }
+    ensures { λ r. ⌜ IsFigures plan client r ⌝ }
+{
+    let m = slots(plan, client);
+    if m < 1 {
+        return Figures::Refused(refusal::NO_SLOT);
+    }
+    Figures::Given(figure(plan, client, m))
 }
 
 // The wait for this many requests, from a client's figure: rounded up.

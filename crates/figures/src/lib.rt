@@ -4,7 +4,6 @@ pub mod inner; // inner.rt
 
 use plan::Plan;
 use records::Outcome;
-use records::refusal;
 ghost use Rattle.plan.specs.Plan.{defaultWaiting};
 ghost use Rattle.figures.specs.Figures.{IsFigures, IsWaitFor};
 
@@ -33,15 +32,11 @@ pub const MOST_WAITING: usize = 255;
 pub fn figure_of(plan: Plan, client: usize) -> Figures
     ensures { λ r. ⌜ IsFigures plan client r ⌝ }
 {
-    let asked = inner::check_asked(plan, client);
+    let asked = plan::check_asked(plan, client);
     if let Outcome::Refused(number, offset) = asked {
         return Figures::Refused(number);
     }
-    let m = inner::slots(plan, client);
-    if m < 1 {
-        return Figures::Refused(refusal::NO_SLOT);
-    }
-    Figures::Given(inner::figure(plan, client, m))
+    inner::figures_of(plan, client)
 }
 
 // The wait of a client for this many waiting requests: the figure's refusals, then 15.

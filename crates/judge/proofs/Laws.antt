@@ -23,7 +23,7 @@ use Rattle.plan.proofs.Laws.{Checked}
 use Rattle.judge.specs.declared.Verdict.{Verdict}
 use Rattle.judge.specs.declared.Verdict.the-variants.{Ok, Rate, Late}
 use Rattle.judge.specs.Rules.{enough, covers, hasRate, inTime, IsOk, IsLate, IsVerdict}
-use Rattle.judge.specs.Judge.{ClientOk, AllOk, Accepted, First, JudgedAs}
+use Rattle.judge.specs.Judge.{ClientOk, AllOk, Accepted, First, JudgedAs, IsJudgement, acceptance}
 
 -- ---- enough rate
 
@@ -173,6 +173,10 @@ pub first-at : (plan : Plan) (from to i : ℕ) (P : ℕ → Type 0) → from ≤
     → First plan from to (i + 1) P
 first-at plan from to i P low high before fails =
     record { place = i; client = refl; low = low; high = high; before = before; fails = fails }
+
+-- no client at all
+pub judged-none : (plan : Plan) (from : ℕ) → IsJudgement plan from from acceptance
+judged-none plan from = (record { each = λ i low high. absurd (omega arith) }, refl, refl, refl)
 
 -- a client judged by itself
 pub verdict-by : (plan : Plan) (i c : ℕ) → c ≡ i + 1 → (verdict : Verdict) (k s j : ℕ) → JudgedAs plan i c verdict k s j

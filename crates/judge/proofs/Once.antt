@@ -1,17 +1,17 @@
 -- Any two answers that a contract of judging allows are equal: there is one verdict, one first client that is not ok,
--- and one first stretch that shows it.
+-- and one first stretch that shows it. An answer's number is that of its check.
 -- Assumes nothing.
 use mathlib.Core.Path.{_≡_, refl, sym, ap, _∙_}
 use mathlib.Core.Bool.{false}
 use Prim.Native.Nat.{ℕ, _+_, _<_}
 use native.Mathlib.Decide.{decLt}
 use native.Mathlib.Omega.{arith}
+use Rattle.records.specs.First.{numberOf}
 use Rattle.records.proofs.Checks.{false-true, refused-number, refused-fine}
 use Rattle.plan.specs.declared.Client.{Client}
 use Rattle.plan.specs.declared.Plan.{Plan}
 use Rattle.plan.specs.Plan.{clientOf, ownOf}
-use Rattle.plan.specs.Check.{planCheck}
-use Rattle.figures.specs.Check.{askedCheck}
+use Rattle.plan.specs.Check.{planCheck, askedCheck}
 use Rattle.judge.specs.declared.Verdict.{Verdict}
 use Rattle.judge.specs.declared.Verdict.the-variants.{Ok, Rate, Late}
 use Rattle.judge.specs.declared.Judgement.{Judgement}
@@ -20,7 +20,8 @@ use Rattle.judge.specs.declared.Judged.the-variants as judged
 use Rattle.judge.specs.declared.Verdicts.{Verdicts}
 use Rattle.judge.specs.declared.Verdicts.the-variants as verdicts
 use Rattle.judge.specs.Rules.{hasRate, IsOk, IsLate, IsVerdict}
-use Rattle.judge.specs.Judge.{ClientOk, AllOk, First, JudgedAs, IsJudged, IsVerdictOf}
+use Rattle.judge.specs.Judge.{ClientOk, AllOk, First, JudgedAs, IsJudged, judgedNumber, IsVerdictOf}
+use Rattle.judge.specs.Judge.{verdictNumber}
 
 -- ---- one client
 
@@ -144,6 +145,10 @@ judgement-alike : (v v′ : Verdict) (c c′ s s′ j j′ : ℕ) → (v ≡ v�
     (record { client = c′; verdict = v′; start = s′; length = j′ })
 judgement-alike v v′ c c′ s s′ j j′ e = rw (e .0, e .1, e .2, e .3)
 
+pub judged-number : (plan : Plan) (r : Judged) → IsJudged plan r → judgedNumber r ≡ numberOf (planCheck plan)
+judged-number plan (judged.Given found) is = sym (ap numberOf (is .0))
+judged-number plan (judged.Refused k) is = refused-number (planCheck plan) k is
+
 pub judged-once : (plan : Plan) (r r′ : Judged) → IsJudged plan r → IsJudged plan r′ → r ≡ r′
 judged-once plan (judged.Given a) (judged.Given b) is is′ =
     ap judged.Given (judgement-alike _ _ _ _ _ _ _ _
@@ -152,6 +157,11 @@ judged-once plan (judged.Given a) (judged.Refused k) is is′ = refused-fine (pl
 judged-once plan (judged.Refused k) (judged.Given b) is is′ = refused-fine (planCheck plan) k is (is′ .0)
 judged-once plan (judged.Refused k) (judged.Refused k′) is is′ =
     ap judged.Refused (refused-number (planCheck plan) k is ∙ sym (refused-number (planCheck plan) k′ is′))
+
+pub verdicts-number : (plan : Plan) (c : ℕ) (r : Verdicts) → IsVerdictOf plan c r
+    → verdictNumber r ≡ numberOf (askedCheck plan c)
+verdicts-number plan c (verdicts.Given verdict) is = sym (ap numberOf (is .0))
+verdicts-number plan c (verdicts.Refused k) is = refused-number (askedCheck plan c) k is
 
 pub verdicts-once : (plan : Plan) (c : ℕ) (r r′ : Verdicts) → IsVerdictOf plan c r → IsVerdictOf plan c r′ → r ≡ r′
 verdicts-once plan c (verdicts.Given a) (verdicts.Given b) is is′ =

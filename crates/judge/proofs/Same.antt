@@ -7,9 +7,7 @@ use native.Mathlib.Omega.{arith}
 use Rattle.plan.specs.declared.Client.{Client}
 use Rattle.plan.specs.declared.Plan.{Plan}
 use Rattle.plan.specs.Plan.{clientOf, ownOf, Same}
-use Rattle.plan.proofs.Laws.{plan-fine, same-check, own-same}
-use Rattle.figures.proofs.Questions.{asked-fine}
-use Rattle.figures.proofs.Same.{asked-check-same}
+use Rattle.plan.proofs.Laws.{plan-fine, asked-fine, same-check, same-asked, own-same}
 use Rattle.judge.specs.declared.Verdict.{Verdict}
 use Rattle.judge.specs.declared.Verdict.the-variants.{Ok, Rate, Late}
 use Rattle.judge.specs.declared.Judged.{Judged}
@@ -58,8 +56,8 @@ verdicts-same plan other same c (verdicts.Given verdict) is =
     let P : Client → (ℕ → ℕ) → ℕ → Type 0 = λ x own f. IsVerdict x own f verdict in
     let i< : c - 1 < plan .n = omega (arith, asked .1, asked .2) in
     let there = client-same plan other same f> P (c - 1) i< (rw place (is .1)) in
-    (sym (asked-check-same plan other same c) ∙ is .0, rw place at there)
-verdicts-same plan other same c (verdicts.Refused k) is = rw (asked-check-same plan other same c) at is
+    (sym (same-asked plan other same c) ∙ is .0, rw place at there)
+verdicts-same plan other same c (verdicts.Refused k) is = rw (same-asked plan other same c) at is
 
 pub judged-same : (plan other : Plan) → Same plan other → (r : Judged) → IsJudged plan r → IsJudged other r
 judged-same plan other same (judged.Given found) is =

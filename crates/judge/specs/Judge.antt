@@ -7,8 +7,7 @@ use Rattle.records.specs.First.{RefusedBy}
 use Rattle.records.specs.declared.Outcome.the-variants.{Fine}
 use Rattle.plan.specs.declared.Plan.{Plan}
 use Rattle.plan.specs.Plan.{clientOf, ownOf}
-use Rattle.plan.specs.Check.{planCheck}
-use Rattle.figures.specs.Check.{askedCheck}
+use Rattle.plan.specs.Check.{planCheck, askedCheck}
 use Rattle.judge.specs.declared.Verdict.{Verdict}
 use Rattle.judge.specs.declared.Verdict.the-variants.{Ok, Rate, Late}
 use Rattle.judge.specs.declared.Judgement.{Judgement}

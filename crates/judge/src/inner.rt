@@ -11,7 +11,7 @@ ghost use Prim.Native.Nat.{ℕ, _-_, _*_, _≤_};
 ghost use Rattle.plan.specs.declared.Plan.{Plan};
 ghost use Rattle.plan.specs.Plan.{clientOf, ownOf};
 ghost use Rattle.judge.specs.Rules.{enough, covers, IsVerdict};
-ghost use Rattle.judge.specs.Judge.{IsJudgement};
+ghost use Rattle.judge.specs.Judge.{acceptance, IsJudgement};
 
 // A product with a number of a client's requirements; x may be such a product already.
 fn times(x: usize, y: u16) -> usize
@@ -37,6 +37,18 @@ fn covers(required: Client, f: usize, m: usize, j: usize, w: usize) -> bool
     times(m * j, required.b) <= times(m, required.a) + times(f * w, required.b)
 }
 
+// The judgement where all clients are ok: no client, no stretch.
+pub fn acceptance() -> Judgement
+    ensures { λ r. ⌜ r ≡ acceptance ⌝ }
+{
+    Judgement {
+        client: 0,
+        verdict: Verdict::Ok,
+        start: 0,
+        length: 0,
+    }
+}
+
 // Judges the clients from + 1 to `to`, and stops at the first failing stretch. Its slots w are counted along.
 pub fn first_failure(plan: Plan, from: usize, to: usize) -> Judgement
     requires { ⌜ (1 ≤ plan .f) × (plan .f ≤ 64) × (to ≤ 8) ⌝ }
@@ -45,12 +57,7 @@ pub fn first_failure(plan: Plan, from: usize, to: usize) -> Judgement
     let f = plan.f;
     let requirements = plan.clients;
     let owners = plan.owners;
-    let mut found = Judgement {
-        client: 0,
-        verdict: Verdict::Ok,
-        start: 0,
-        length: 0,
-    };
+    let mut found = acceptance();
     'clients: for i in from..to {
         let required = requirements[i];
         let m = slots(plan, i + 1);

@@ -2,8 +2,8 @@
 // why not. Every plan and number gets an answer; `inner` has the functions for callers that have checked their plan.
 pub mod inner; // inner.rt
 
-use figures::inner::check_asked;
 use plan::Plan;
+use plan::check_asked;
 use records::Outcome;
 ghost use Rattle.judge.specs.Judge.{IsJudged, IsVerdictOf};
 

@@ -8,14 +8,13 @@ use Rattle.records.specs.Put.{Put}
 use Rattle.records.specs.declared.Outcome.the-variants.{Fine, Refused}
 use Rattle.records.proofs.Puts.{then}
 use Rattle.plan.specs.declared.Plan.{Plan}
-use Rattle.plan.specs.Check.{planCheck}
-use Rattle.plan.proofs.Laws.{plan-fine}
+use Rattle.plan.specs.Check.{planCheck, askedCheck}
+use Rattle.plan.proofs.Laws.{plan-fine, asked-pass}
 use Rattle.text.specs.Text.{bytes, refusalLine, Lines, Puts}
 use Rattle.stream.specs.declared.Reading.{Reading}
 use Rattle.stream.specs.Read.{readOf}
 use Rattle.figures.specs.declared.Wait.{Wait}
 use Rattle.figures.specs.Figures.{IsWaitFor}
-use Rattle.figures.proofs.Questions.{asked-pass}
 use Rattle.judge.specs.declared.Verdict.{Verdict}
 use Rattle.judge.specs.declared.Verdict.the-variants.{Ok, Rate, Late}
 use Rattle.judge.specs.declared.Judgement.{Judgement}
@@ -26,14 +25,19 @@ use Rattle.listing.specs.declared.Line.{Line}
 use Rattle.listing.specs.Listing.{header, lineText, refusedText, closingText, homingWaiting, homingLine}
 use Rattle.listing.specs.Listing.{IsLine, IsReportLine, IsClosing, IsReportOf, IsHomingLine, OrRefusal}
 
--- ---- a client judged by itself
+-- ---- a client of a plan that is checked
 
+-- it can be asked about
+pub client-asked : (plan : Plan) (i : ℕ) → planCheck plan ≡ Fine → i < plan .n → askedCheck plan (i + 1) ≡ Fine
+client-asked plan i fine i< = asked-pass plan (i + 1) (plan-fine plan fine) (omega arith) (omega arith)
+
+-- and judged by itself
 pub judged-verdict : (plan : Plan) (i : ℕ) (found : Judgement) → planCheck plan ≡ Fine → i < plan .n
     → IsJudgement plan i (i + 1) found → IsVerdictOf plan (i + 1) (verdicts.Given (found .verdict))
 judged-verdict plan i found fine i< is =
     let e : i + 1 - 1 ≡ i = omega arith in
     let verdict = verdict-by plan i (i + 1) refl (found .verdict) (found .client) (found .start) (found .length) is in
-    (asked-pass plan (i + 1) (plan-fine plan fine) (omega arith) (omega arith), rw e verdict)
+    (client-asked plan i fine i<, rw e verdict)
 
 -- ---- the last line
 

@@ -5,9 +5,11 @@ use super::Line;
 use super::Listed;
 use figures::Figures;
 use figures::Wait;
+use figures::inner::figures_of;
 use figures::inner::wait_from;
 use judge::Judgement;
 use judge::Verdict;
+use judge::inner::acceptance;
 use judge::inner::first_failure;
 use judge::inner::first_of;
 use plan::Plan;
@@ -18,7 +20,7 @@ ghost use mathlib.Core.Path.{_≡_};
 ghost use Prim.Native.Nat.{_+_, _*_, _≤_};
 ghost use Rattle.records.specs.Put.{Put};
 ghost use Rattle.records.specs.declared.Outcome.the-variants.{Fine};
-ghost use Rattle.plan.specs.Check.{planCheck};
+ghost use Rattle.plan.specs.Check.{planCheck, askedCheck};
 ghost use Rattle.text.specs.Text.{Lines, Puts, Room, Lendable};
 ghost use Rattle.figures.specs.Figures.{IsWaitFor};
 ghost use Rattle.judge.specs.declared.Verdicts.the-variants.{Given};
@@ -91,7 +93,7 @@ fn line_of(plan: Plan, client: usize, verdict: Verdict) -> Line
     requires { ⌜ IsVerdictOf plan client (Given verdict) ⌝ }
     ensures { λ r. ⌜ IsLine plan client r ⌝ }
 {
-    let figures = figures::figure_of(plan, client);
+    let figures = figures_of(plan, client);
     let wait = wait_from(plan, client, figures, Plan::DEFAULT_WAITING);
     Line {
         client: client,
@@ -111,7 +113,7 @@ fn put_lines(out: &mut [u8; PAGE], at: usize, plan: Plan) -> Listed
 {
     let n = plan.n;
     let mut next = at;
-    let mut found = first_failure(plan, 0, 0);
+    let mut found = acceptance();
     let mut i = 0;
     while i < n {
         let judged = first_failure(plan, i, i + 1);
@@ -167,9 +169,11 @@ pub fn put_report(out: &mut [u8; PAGE], plan: Plan) -> usize
 
 // The wait that the homing listing shows of a client.
 fn homing_wait(plan: Plan, client: usize) -> Wait
+    requires { ⌜ askedCheck plan client ≡ Fine ⌝ }
     ensures { λ r. ⌜ IsWaitFor plan client homingWaiting r ⌝ }
 {
-    figures::default_wait(plan, client)
+    let figures = figures_of(plan, client);
+    wait_from(plan, client, figures, Plan::DEFAULT_WAITING)
 }
 
 // A line of the homing listing: two numbers, a space and the line feed.

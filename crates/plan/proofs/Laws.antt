@@ -1,5 +1,5 @@
--- Laws of a plan and its checks: a plan passes exactly when it is in bounds, plans that are the same are checked alike,
--- and a client's slots repeat with the frame.
+-- Laws of a plan and its checks: a plan passes exactly when it is in bounds, a question about a client when it names
+-- one besides; plans that are the same are checked alike; and a client's slots repeat with the frame.
 -- Assumes nothing.
 use mathlib.Core.Path.{_≡_, refl, ap, sym}
 use mathlib.Core.List.{List}
@@ -20,7 +20,7 @@ use Rattle.plan.specs.declared.Client.{Client}
 use Rattle.plan.specs.declared.Plan.{Plan}
 use Rattle.plan.specs.Plan.{noClient, clientOf, ownerOf, isClient, ownIn, ownOf, Same, used}
 use Rattle.plan.specs.Check.{clientCheck, ownerCheck, clientCheckOf, requirementsCheck}
-use Rattle.plan.specs.Check.{ownerCheckOf, ownersCheck, planCheck}
+use Rattle.plan.specs.Check.{ownerCheckOf, ownersCheck, planCheck, askedCheck}
 
 -- ---- one check
 
@@ -121,6 +121,18 @@ plan-pass plan c =
     rw (requirements-pass plan (c .bounds))
     (first-all (ownerCheckOf plan) (plan .f) (λ x l. owner-pass (ownerOf plan x) (plan .n) 0 (c .owned x l)))
 
+-- a question about a client passes exactly when its plan does and it names one
+pub asked-fine : (plan : Plan) (c : ℕ) → askedCheck plan c ≡ Fine → Checked plan × (1 ≤ c) × (c ≤ plan .n)
+unfolding askedCheck
+asked-fine plan c h =
+    let a = both-fine _ _ h in
+    let r = range-fine c (plan .n) refusal.asked (a .1) in
+    (plan-fine plan (a .0), r .0, r .1)
+
+pub asked-pass : (plan : Plan) (c : ℕ) → Checked plan → 1 ≤ c → c ≤ plan .n → askedCheck plan c ≡ Fine
+unfolding askedCheck
+asked-pass plan c ok low high = rw (plan-pass plan ok) (range-pass c (plan .n) refusal.asked low high)
+
 -- ---- plans that are the same
 
 -- what is 0 past f and past n is the same plan
@@ -158,6 +170,11 @@ same-check plan other s =
     let r = requirements-same plan other (s .frame) (s .count) (s .clients) in
     let o = first-same (ownerCheckOf plan) (ownerCheckOf other) (plan .f) (λ x l. rw (s .owners x l, s .count)) in
     rw (r, o, s .frame)
+
+-- and so is a question about it
+pub same-asked : (plan other : Plan) → Same plan other → (c : ℕ) → askedCheck plan c ≡ askedCheck other c
+unfolding askedCheck
+same-asked plan other s c = rw (same-check plan other s, s .count)
 
 -- ---- a client's slots
 

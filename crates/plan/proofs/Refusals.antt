@@ -1,4 +1,5 @@
--- A plan's refusals have a number up to 10, the offset that is handed in and, outside reading, offset 0.
+-- A plan's refusals have a number up to 10, those of a question about a client up to 13; the offset that is handed in
+-- and, outside reading, offset 0.
 -- Assumes nothing.
 use mathlib.Core.Path.{_≡_, refl}
 use mathlib.Core.Logic.{inl}
@@ -6,7 +7,7 @@ use Prim.Native.Nat.{ℕ, _≤_}
 use native.Mathlib.Omega.{arith}
 use lib.Dec.{leb}
 use Rattle.records.specs.Refusal as refusal
-use Rattle.records.specs.First.{between, need, orElse, firstOf, offsetOf, Numbered}
+use Rattle.records.specs.First.{between, need, rangeCheck, orElse, firstOf, offsetOf, Numbered}
 use Rattle.records.specs.declared.Outcome.{Outcome}
 use Rattle.records.specs.declared.Outcome.the-variants.{Fine}
 use Rattle.records.proofs.Refusals.{or-each, first-each, need-numbered, range-numbered, need-within, need-unread}
@@ -15,7 +16,7 @@ use Rattle.plan.specs.declared.Client.{Client}
 use Rattle.plan.specs.declared.Plan.{Plan}
 use Rattle.plan.specs.Plan.{clientOf, ownerOf}
 use Rattle.plan.specs.Check.{frameCheck, countCheck, clientCheck, ownerCheck, clientCheckOf, requirementsCheck}
-use Rattle.plan.specs.Check.{ownerCheckOf, ownersCheck, planCheck}
+use Rattle.plan.specs.Check.{ownerCheckOf, ownersCheck, planCheck, askedCheck}
 
 -- what holds of what each check finds holds of what the requirements' check finds
 requirements-each : (P : Outcome → Type 0) → P Fine → ((f : ℕ) → P (frameCheck f)) → ((n : ℕ) → P (countCheck n))
@@ -60,6 +61,12 @@ pub plan-numbered : (most : ℕ) → refusal.owner ≤ most → (plan : Plan) �
 plan-numbered most h plan =
     plan-each (Numbered most) (inl refl) (λ owner n. owner-numbered most owner n 0 h) plan
     (requirements-numbered most h plan)
+
+pub asked-numbered : (most : ℕ) → refusal.asked ≤ most → (plan : Plan) (c : ℕ) → Numbered most (askedCheck plan c)
+unfolding askedCheck
+asked-numbered most h plan c =
+    or-each (Numbered most) (planCheck plan) (rangeCheck c (plan .n) refusal.asked)
+    (plan-numbered most (omega arith) plan) (range-numbered most c (plan .n) refusal.asked (omega arith) h)
 
 -- ---- offsets
 

@@ -1,4 +1,4 @@
--- A plan's checks: "5, 6, then 8 and 9 client by client, then 10 slot by slot" (document 01, Refusal numbers).
+-- A plan's checks: "5, 6, then 8 and 9 client by client, then 10 slot by slot", and 13 (document 01, Refusal numbers).
 use Prim.Native.Nat.{ℕ}
 use lib.Dec.{leb}
 use Rattle.records.specs.Refusal as refusal
@@ -45,3 +45,7 @@ ownersCheck plan = firstOf (ownerCheckOf plan) (plan .f)
 -- the whole plan: "All else that takes a plan checks it first"
 unfoldable pub planCheck : Plan → Outcome
 planCheck plan = orElse (requirementsCheck plan) (ownersCheck plan)
+
+-- a question about client c: the plan's checks, then 13: "the client asked about is not 1 to n"
+unfoldable pub askedCheck : Plan → ℕ → Outcome
+askedCheck plan c = orElse (planCheck plan) (rangeCheck c (plan .n) refusal.asked)

@@ -55,6 +55,10 @@ used plan =
       owners = padded (ownerOf plan) (plan .f) 64 0;
     }
 
+-- the plan with another table
+abbrev pub withTable : Plan → List ℕ → Plan
+withTable plan t = record { f = plan .f; n = plan .n; clients = plan .clients; owners = t }
+
 -- "A wait asked without a number is for one request"
 abbrev pub defaultWaiting : ℕ
 defaultWaiting = 1

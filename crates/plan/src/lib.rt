@@ -1,11 +1,15 @@
 // The plan as a value: a frame's slots, their owners, and what each client requires. `check` gives a plan's first
-// refusal; `inner` has the checks one by one, for the reader of plan files and for callers that know the bounds.
+// refusal, `check_asked` that of a question about one of its clients; `inner` has the checks one by one, for the reader
+// of plan files and for callers that know the bounds.
 pub mod inner; // inner.rt
 
 use records::Outcome;
+use records::check_range;
+use records::or_else;
+use records::refusal;
 ghost use mathlib.Core.Path.{_≡_};
-ghost use Rattle.plan.specs.Plan.{noPlan};
-ghost use Rattle.plan.specs.Check.{requirementsCheck, planCheck};
+ghost use Rattle.plan.specs.Plan.{noClient, noPlan, withTable};
+ghost use Rattle.plan.specs.Check.{requirementsCheck, planCheck, askedCheck};
 
 // What a client requires: the rate p/q, the latency a/b in slots.
 pub struct Client {
@@ -28,21 +32,40 @@ impl Plan {
     pub const DEFAULT_WAITING: usize = 1;
 }
 
-// A plan with every number 0.
-pub fn no_plan() -> Plan
-    ensures { λ r. ⌜ r ≡ noPlan ⌝ }
+// A client with every number 0, as it stands past n.
+pub fn no_client() -> Client
+    ensures { λ r. ⌜ r ≡ noClient ⌝ }
 {
-    let none = Client {
+    Client {
         p: 0,
         q: 0,
         a: 0,
         b: 0,
-    };
+    }
+}
+
+// A plan with every number 0.
+pub fn no_plan() -> Plan
+    ensures { λ r. ⌜ r ≡ noPlan ⌝ }
+{
     Plan {
         f: 0,
         n: 0,
-        clients: [none; 8],
+        clients: [no_client(); 8],
         owners: [0u8; 64],
+    }
+}
+
+// The plan with another table.
+pub fn with_table(plan: Plan, owners: [u8; 64]) -> Plan
+    ensures { λ r. ⌜ r ≡ withTable plan owners ⌝ }
+{
+    let clients = plan.clients;
+    Plan {
+        f: plan.f,
+        n: plan.n,
+        clients: clients,
+        owners: owners,
     }
 }
 
@@ -70,4 +93,13 @@ pub fn check(plan: Plan) -> Outcome
         return Outcome::Refused(number, offset);
     }
     inner::check_owners(plan)
+}
+
+// A question about a client: the plan's checks, then 13.
+pub fn check_asked(plan: Plan, client: usize) -> Outcome
+    ensures { λ r. ⌜ r ≡ askedCheck plan client ⌝ }
+{
+    let checked = check(plan);
+    let asked = check_range(client, plan.n, refusal::ASKED);
+    or_else(checked, asked)
 }

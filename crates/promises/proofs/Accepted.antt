@@ -19,13 +19,13 @@ use Rattle.frame.proofs.Scaled.{scaled-is}
 use Rattle.records.proofs.Checks.{false-true, refused-fine}
 use Rattle.plan.specs.declared.Client.{Client}
 use Rattle.plan.specs.declared.Plan.{Plan}
-use Rattle.plan.specs.Plan.{clientOf, ownOf}
+use Rattle.plan.specs.Plan.{clientOf, ownOf, withTable}
 use Rattle.plan.proofs.Laws.{Checked, requirements-fine, requirements-pass, requirements-same, plan-fine, plan-pass}
+use Rattle.plan.proofs.Laws.{asked-fine, asked-pass}
 use Rattle.figures.specs.declared.Figure.{Figure}
 use Rattle.figures.specs.declared.Figures.the-variants as figures
 use Rattle.figures.specs.Figures.{IsFigures}
 use Rattle.figures.proofs.Laws.{frame-of}
-use Rattle.figures.proofs.Questions.{asked-fine, asked-pass}
 use Rattle.figures.proofs.Answers.{given-fine}
 use Rattle.judge.specs.declared.Judged.{Judged}
 use Rattle.judge.specs.declared.Judged.the-variants as judged
@@ -42,7 +42,7 @@ use Rattle.explore.specs.Best.{Table, owned, LexLe, NoTable}
 use Rattle.search.specs.declared.Finding.{Finding}
 use Rattle.search.specs.declared.Finding.the-variants as finding
 use Rattle.search.specs.declared.Searched.{Searched}
-use Rattle.search.specs.Search.{idlePlan, searchCheck, withTable, AcceptedIn, SearchedAs, IsSearched}
+use Rattle.search.specs.Search.{idlePlan, searchCheck, AcceptedIn, SearchedAs, IsSearched}
 use Rattle.search.proofs.Questions.{Searchable, search-fine, search-pass}
 use Rattle.search.proofs.Same.{accepted-front}
 use Rattle.arbiter.specs.Run.{SatisfiesOf}

@@ -3,12 +3,13 @@
 -- Assumes nothing.
 use mathlib.Core.Path.{_≡_, refl, sym, ap, _∙_, fun-ext}
 use mathlib.Core.Bool.{Bool, true, false}
-use mathlib.Core.List.{List, [], _∷_}
-use Prim.Native.Nat.{ℕ, _+_, _%_, _≤_, _<_}
+use mathlib.Core.List.{List, [], _∷_, _++_}
+use Prim.Native.Nat.{ℕ, _+_, _-_, _%_, _≤_, _<_}
 use native.Mathlib.Nat.{mod-lt}
 use native.Mathlib.Omega.{arith}
 use lib.Dec.{eqb, leb}
-use lib.ListN.{take}
+use lib.ListN.{take, replicate}
+use lib.Seq.{take-at, drop-at}
 use borrow.Author.Tests.{eqb-true, leb-true}
 use Rattle.frame.specs.Frame.{slotsOf, within, Frame}
 use Rattle.frame.specs.Largest.{largest, lack, lackFrom, scaledOf, waitOf}
@@ -35,10 +36,12 @@ use Rattle.figures.proofs.Laws.{frame-of}
 use Rattle.figures.proofs.Questions.{Asked, figure-pass}
 use Rattle.figures.proofs.Answers.{figures-given, waits-given}
 use Rattle.figures.proofs.Once.{figures-once, waits-once}
+use Rattle.judge.specs.declared.Judged.{Judged}
 use Rattle.judge.specs.declared.Judged.the-variants as judged
+use Rattle.judge.specs.declared.Verdict.the-variants.{Late}
 use Rattle.judge.specs.Rules.{enough, covers, IsOk, IsLate}
-use Rattle.judge.specs.Judge.{AllOk, acceptance}
-use Rattle.judge.proofs.Laws.{first-at}
+use Rattle.judge.specs.Judge.{IsJudged, acceptance}
+use Rattle.judge.proofs.Laws.{first-at, judged-none}
 use Rattle.judge.proofs.Once.{judged-once}
 use Rattle.explore.specs.Best.{owned, IsBest}
 use Rattle.explore.proofs.Order.{best-one}
@@ -48,7 +51,7 @@ use Rattle.search.specs.Search.{searchCheck, sizeCheck, AcceptedIn, SearchedAs}
 use Rattle.search.proofs.Questions.{search-fine}
 use Rattle.arbiter.specs.Step.{ruleFor, servedBy, lessOne, advanced, positionCheck, arrivalsCheck, stepCheck, stepOf}
 use Rattle.promises.specs.Bench.{Schedule, among, schedulePlan, searchPlan, little, Question, figure, waiting}
-use Rattle.promises.specs.Bench.{accepted, late, found, none, steps, Right, AllRight, questions}
+use Rattle.promises.specs.Bench.{accepted, late, found, none, steps, Answered, Right, AllRight, questions}
 use Rattle.promises.proofs.Tests.{allBelow, fineTest, fine-tested, okTest, ok-tested, lateTest, late-tested}
 use Rattle.promises.proofs.Tests.{acceptTest, everyTable, lexTest, betterTest, noneTest, none-tested, bestTest}
 use Rattle.promises.proofs.Tests.{best-tested, numbersTest, serviceTest, stepTest, step-tested}
@@ -187,22 +190,30 @@ module _ (t : Schedule) (m L : ℕ) (facts : Figured t m L) where
 
   figure-right : Right (figure t m L)
   unfolding plan schedulePlan its-figure
-  figure-right r is =
+  figure-right =
       let allowed = figures-given plan 1 its-figure (figure-pass plan 1 asked) figure-is in
-      let e = figures-once plan 1 r (figures.Given its-figure) is allowed in
-      (ap figuresNumber e, ap (λ (x : Figures). figureIn x .slots) e, ap (λ (x : Figures). figureIn x .scaled) e)
+      record {
+        answer = figures.Given its-figure;
+        is = allowed;
+        only = λ r is.
+            let e = figures-once plan 1 r (figures.Given its-figure) is allowed in
+            (ap figuresNumber e, ap (λ (x : Figures). figureIn x .slots) e, ap (λ (x : Figures). figureIn x .scaled) e);
+      }
 
   wait-right : (k slots : ℕ) → waitTest (t .f) m L k slots ≡ true → Right (waiting t k slots)
   unfolding plan schedulePlan its-figure
-  wait-right k slots h r is =
+  wait-right k slots h =
       let a = both-true (leb 1 k) _ h in
       let b = both-true (leb k mostWaiting) _ (a .1) in
       let c = both-true (eqb (waitOf (t .f) m L k) slots) true (b .1) in
       let range = range-pass k mostWaiting refusal.waiting (leb-true 1 k (a .0)) (leb-true k mostWaiting (b .0)) in
       let least = rw (eqb-true (waitOf (t .f) m L k) slots (c .0)) at (wait-is (t .f) m L k (facts .m-low)) in
       let allowed = waits-given plan 1 k slots its-figure (figure-pass plan 1 asked) range figure-is least in
-      let e = waits-once plan 1 k r (wait.Given slots) is allowed in
-      (ap waitNumber e, ap waitIn e)
+      record {
+        answer = wait.Given slots;
+        is = allowed;
+        only = λ r is. let e = waits-once plan 1 k r (wait.Given slots) is allowed in (ap waitNumber e, ap waitIn e);
+      }
 
 -- ---- judging a schedule, and the search
 
@@ -230,19 +241,23 @@ module _ (t : Schedule) (client : Client) (tested : fineTest (planCheck (schedul
       let first : i ≡ 0 = omega arith in
       rw (first, get-padded (λ j. client) 1 8 noClient 0 (omega arith), own-schedule client t f-low) h
 
+  -- an answer that is allowed is the only one
+  judged-right : (r : Judged) → IsJudged judged-plan r → Answered (IsJudged judged-plan) (λ x. x ≡ r)
+  judged-right r is = record { answer = r; is = is; only = λ x allowed. judged-once judged-plan x r allowed is }
+
   accepted-right : okTest client (ownBy t) (t .f) ≡ true → Right (accepted t client)
   unfolding judged-plan schedulePlan
-  accepted-right h r is =
+  accepted-right h =
       let ok = ok-tested client (ownBy t) (t .f) schedule-frame h in
-      judged-once judged-plan r (judged.Given acceptance) is
+      judged-right (judged.Given acceptance)
       (judged-fine, (record { each = λ i low l. only IsOk ok i l }, refl, refl, refl))
 
   late-right : (s j : ℕ) → lateTest client (ownBy t) (t .f) s j ≡ true → Right (late t client s j)
   unfolding judged-plan schedulePlan
-  late-right s j h r is =
+  late-right s j h =
       let bad = late-tested client (ownBy t) (t .f) schedule-frame s j h in
-      let none-before : AllOk judged-plan 0 0 = record { each = λ i low l. absurd (omega arith) } in
-      judged-once judged-plan r _ is (
+      let none-before = judged-none judged-plan 0 .0 in
+      judged-right (judged.Given (record { client = 1; verdict = Late; start = s; length = j })) (
         judged-fine,
         first-at judged-plan 0 1 0 _ (omega arith) (omega arith) none-before
             (only (λ x own f. IsLate x own f s j) bad 0 (omega arith)),
@@ -258,24 +273,37 @@ module _ (f n : ℕ) (client : Client) (facts : fineTest (searchCheck (searchPla
 
   found-right : (table : List ℕ) → bestTest (searchPlan f n client) table ≡ true → Right (found f n client table)
   unfolding searched searchPlan
-  found-right table h r is = by (r .answer) is
+  found-right table h =
+      let rest = replicate {A = ℕ} (64 - f) 0 in
+      let front = take-at table rest f (best .table .long) in
+      record {
+        answer = record { answer = finding.Found; owners = table ++ rest };
+        is = (searched-fine, (rw front best, drop-at table rest f (best .table .long)));
+        only = λ r is. by (r .answer) (r .owners) is;
+      }
     where
       best : IsBest (AcceptedIn searched) f n table
       best = best-tested searched (search-fine searched searched-fine .bounds .f-low) table h
 
-      by : (a : Finding) → SearchedAs searched a (r .owners) → (a ≡ finding.Found) × (take f (r .owners) ≡ table)
-      by finding.Found x = (refl, best-one (AcceptedIn searched) f n _ table (x .1 .0) best)
-      by finding.None x = absurd (x .1 .0 table (best .table) (best .good))
-      by (finding.Refused k) x = refused-fine (searchCheck searched) k (x .0) searched-fine
+      by : (a : Finding) (owners : List ℕ) → SearchedAs searched a owners
+          → (a ≡ finding.Found) × (take f owners ≡ table)
+      by finding.Found owners x = (refl, best-one (AcceptedIn searched) f n _ table (x .1 .0) best)
+      by finding.None owners x = absurd (x .1 .0 table (best .table) (best .good))
+      by (finding.Refused k) owners x = refused-fine (searchCheck searched) k (x .0) searched-fine
 
   none-right : noneTest (searchPlan f n client) ≡ true → Right (none f n client)
   unfolding searched searchPlan
-  none-right h r is = by (r .answer) is
+  none-right h =
+      record {
+        answer = record { answer = finding.None; owners = replicate 64 0 };
+        is = (searched-fine, (none-tested searched h, refl));
+        only = λ r is. by (r .answer) (r .owners) is;
+      }
     where
-      by : (a : Finding) → SearchedAs searched a (r .owners) → a ≡ finding.None
-      by finding.Found x = absurd (none-tested searched h _ (x .1 .0 .table) (x .1 .0 .good))
-      by finding.None x = refl
-      by (finding.Refused k) x = refused-fine (searchCheck searched) k (x .0) searched-fine
+      by : (a : Finding) (owners : List ℕ) → SearchedAs searched a owners → a ≡ finding.None
+      by finding.Found owners x = absurd (none-tested searched h _ (x .1 .0 .table) (x .1 .0 .good))
+      by finding.None owners x = refl
+      by (finding.Refused k) owners x = refused-fine (searchCheck searched) k (x .0) searched-fine
 
 right : (q : Question) → test q ≡ true → Right q
 unfolding test
@@ -297,7 +325,8 @@ right (found f n client table) h =
 right (none f n client) h =
     let g = both-true (fineTest (searchCheck (searchPlan f n client))) (noneTest (searchPlan f n client)) h in
     none-right f n client (g .0) (g .1)
-right (steps plan arb xs goes) h = λ r is. is ∙ step-tested (stepOf plan arb xs) goes h
+right (steps plan arb xs goes) h =
+    record { answer = stepOf plan arb xs; is = refl; only = λ r is. is ∙ step-tested (stepOf plan arb xs) goes h }
 
 -- ---- all of them
 

@@ -20,19 +20,21 @@ use Rattle.records.proofs.Puts.{put-length, put-front}
 use Rattle.plan.specs.declared.Client.{Client}
 use Rattle.plan.specs.declared.Plan.{Plan}
 use Rattle.plan.specs.Plan.{noClient, noPlan, ownOf, Same}
-use Rattle.plan.specs.Check.{planCheck}
-use Rattle.plan.proofs.Laws.{Checked, plan-fine, plan-pass, same-check}
-use Rattle.plan.proofs.Refusals.{plan-numbered, plan-unread}
+use Rattle.plan.specs.Check.{planCheck, askedCheck}
+use Rattle.plan.proofs.Laws.{Checked, plan-fine, plan-pass, asked-fine, asked-pass, same-check}
+use Rattle.plan.proofs.Refusals.{plan-numbered, plan-unread, asked-numbered}
 use Rattle.text.specs.Text.{bytes, refusalLine, Puts, Lendable}
 use Rattle.text.proofs.Laws.{puts-once}
 use Rattle.stream.specs.Read.{readCheck, planOf, planIf, readOf}
 use Rattle.stream.specs.Write.{streamOf, writeCheck, writtenBy, writtenOf, writtenNumber, writtenSize, bytesBy}
 use Rattle.stream.specs.Write.{bytesOf, Wrote}
+use Rattle.stream.specs.Trip.{Copied}
 use Rattle.stream.specs.declared.Written.{Written}
 use Rattle.stream.proofs.Same.{same-stream}
 use Rattle.stream.proofs.Numbers.{read-numbered, write-numbered}
 use Rattle.stream.proofs.Offsets.{read-within}
-use Rattle.figures.specs.Check.{askedCheck, figureCheck, waitCheck}
+use Rattle.stream.proofs.Trips.{copied-once}
+use Rattle.figures.specs.Check.{figureCheck, waitCheck}
 use Rattle.figures.specs.Figures.{noFigure, figuresNumber, figureIn, IsFigures, waitNumber, waitIn, IsWaitFor}
 use Rattle.figures.specs.declared.Figure.{Figure}
 use Rattle.figures.specs.declared.Figures.{Figures}
@@ -40,7 +42,7 @@ use Rattle.figures.specs.declared.Figures.the-variants as figures
 use Rattle.figures.specs.declared.Wait.{Wait}
 use Rattle.figures.specs.declared.Wait.the-variants as wait
 use Rattle.figures.proofs.Questions.{Asked, figure-numbered, figure-fine, figure-pass, Waited, wait-fine, wait-pass}
-use Rattle.figures.proofs.Questions.{wait-numbered, asked-numbered, asked-fine, asked-pass}
+use Rattle.figures.proofs.Questions.{wait-numbered}
 use Rattle.figures.proofs.Answers.{given-fine, refused-not-fine, wait-given-fine, wait-refused-not-fine}
 use Rattle.figures.proofs.Once.{figures-once, waits-once}
 use Rattle.figures.proofs.Same.{figures-same, waits-same}
@@ -52,14 +54,14 @@ use Rattle.judge.specs.declared.Verdicts.{Verdicts}
 use Rattle.judge.specs.declared.Verdicts.the-variants as verdicts
 use Rattle.judge.specs.Judge.{IsJudged, judgedNumber, judgedValues, judgedVerdict, IsVerdictOf, verdictNumber}
 use Rattle.judge.specs.Judge.{verdictIn}
-use Rattle.judge.proofs.Once.{judged-once, verdicts-once}
+use Rattle.judge.proofs.Once.{judged-number, judged-once, verdicts-number, verdicts-once}
 use Rattle.judge.proofs.Same.{judged-same, verdicts-same}
 use Rattle.search.specs.declared.Finding.{Finding}
 use Rattle.search.specs.declared.Finding.the-variants as finding
 use Rattle.search.specs.declared.Searched.{Searched}
 use Rattle.search.specs.Search.{idlePlan, searchCheck, SearchedAs, IsSearched, searchedNumber}
 use Rattle.search.proofs.Questions.{Searchable, search-fine, search-pass, search-numbered}
-use Rattle.search.proofs.Once.{searched-once}
+use Rattle.search.proofs.Once.{searched-number, searched-once}
 use Rattle.search.proofs.Same.{searched-same}
 use Rattle.arbiter.specs.declared.Answer.{Answer}
 use Rattle.arbiter.specs.declared.Arbiter.{Arbiter}
@@ -73,7 +75,6 @@ use Rattle.arbiter.proofs.Same.{same-step, answer-unread, count-unread}
 use Rattle.arbiter.proofs.Laws.{step-kept as past-kept, step-none as past-none}
 use Rattle.listing.specs.Listing.{figuresText, waitText, IsReport, IsHoming}
 use Rattle.listing.proofs.Once.{report-once as one-report, homing-once as one-homing}
-use Rattle.promises.specs.Trip.{Copied}
 
 -- ---- any two outcomes coincide
 
@@ -96,8 +97,7 @@ write-once plan out r r′ now now′ h h′ =
 
 pub rewritten-once : (s out : List ℕ) (r r′ : Written) (now now′ : List ℕ) → Copied s out r now → Copied s out r′ now′
     → (r ≡ r′) × (now ≡ now′)
-rewritten-once s out r r′ now now′ h h′ =
-    (once _ r r′ (h .answer) (h′ .answer), once _ now now′ (h .bytes) (h′ .bytes))
+rewritten-once = copied-once
 
 -- where it says "largest" and "rounded up": `figure_of`, `wait_for` and, with the default number, `default_wait`
 pub figure-once : (plan : Plan) (c : ℕ) (r r′ : Figures) → IsFigures plan c r → IsFigures plan c r′ → r ≡ r′
@@ -133,14 +133,31 @@ pub homing-once : (s out : List ℕ) (r r′ : ℕ) (now now′ : List ℕ) → 
 homing-once s out r r′ now now′ = puts-once (IsHoming s) (one-homing s)
 
 -- and what such a page then holds: at its front, which the programs write, the text, and past it what stood there
-pub page-after : (out text now : List ℕ) (r : ℕ) → Put out 0 text now r → Lendable r now
-    → (take r now ≡ text) × (drop r now ≡ drop r out)
-page-after out text now r put front =
+page-after : (Is : List ℕ → Type 0) (out now : List ℕ) (r : ℕ) → Puts Is out 0 now r → Lendable r now
+    → Is (take r now) × (drop r now ≡ drop r out)
+page-after Is out now r puts front =
+    let text = puts .text in
+    let put = puts .put in
     let size : length text ≡ r = omega (arith, put .place) in
-    let page = put-front put (omega (arith, front .0, put-length put)) in (
-      ap (take r) page ∙ take-at text _ r size,
+    let page = put-front put (omega (arith, front .0, put-length put)) in
+    let text-first : take r now ≡ text = ap (take r) page ∙ take-at text _ r size in (
+      rw text-first (puts .is),
       ap (drop r) page ∙ drop-at text _ r size ∙ ap (λ (k : ℕ). drop k out) size,
     )
+
+pub refusal-page : (out now : List ℕ) (number offset r : ℕ) → Put out 0 (refusalLine number offset) now r
+    → Lendable r now → (take r now ≡ refusalLine number offset) × (drop r now ≡ drop r out)
+refusal-page out now number offset r put =
+    let line = refusalLine number offset in
+    page-after (λ text. text ≡ line) out now r (record { text = line; is = refl; put = put })
+
+pub report-page : (s out now : List ℕ) (r : ℕ) → Puts (IsReport s) out 0 now r → Lendable r now
+    → IsReport s (take r now) × (drop r now ≡ drop r out)
+report-page s = page-after (IsReport s)
+
+pub homing-page : (s out now : List ℕ) (r : ℕ) → Puts (IsHoming s) out 0 now r → Lendable r now
+    → IsHoming s (take r now) × (drop r now ≡ drop r out)
+homing-page s = page-after (IsHoming s)
 
 -- "A client without slots has `-` for L and wait", and m 0; one with slots has numbers (`figure-given`, `wait-given`)
 pub no-slots-figures : (plan : Plan) (c : ℕ) (r : Figures) → IsFigures plan c r
@@ -177,28 +194,18 @@ wait-number = wait-numbered refusal.waiting (omega arith)
 
 -- judging has the plan's numbers, a client's verdict 13 besides
 pub judge-number : (plan : Plan) (r : Judged) → IsJudged plan r → judgedNumber r ≡ numberOf (planCheck plan)
-judge-number plan (judged.Given found) is = sym (ap numberOf (is .0))
-judge-number plan (judged.Refused k) is = refused-number (planCheck plan) k is
+judge-number = judged-number
 
 pub verdict-number : (plan : Plan) (c : ℕ) (r : Verdicts) → IsVerdictOf plan c r
     → (verdictNumber r ≡ numberOf (askedCheck plan c)) × Numbered 13 (askedCheck plan c)
-verdict-number plan c (verdicts.Given verdict) is =
-    (sym (ap numberOf (is .0)), asked-numbered refusal.asked (omega arith) plan c)
-verdict-number plan c (verdicts.Refused k) is =
-    (refused-number (askedCheck plan c) k is, asked-numbered refusal.asked (omega arith) plan c)
+verdict-number plan c r is = (verdicts-number plan c r is, asked-numbered refusal.asked (omega arith) plan c)
 
 pub search-number : (f n : ℕ) (clients : List Client) (r : Searched) → IsSearched (idlePlan f n clients) r
     → (searchedNumber (r .answer) ≡ numberOf (searchCheck (idlePlan f n clients)))
     × Numbered 16 (searchCheck (idlePlan f n clients))
 search-number f n clients r is =
-    let numbered = search-numbered refusal.tooLarge (omega arith) (idlePlan f n clients) in
-    (search-number-by (idlePlan f n clients) (r .answer) (r .owners) is, numbered)
-  where
-    search-number-by : (plan : Plan) (a : Finding) (owners : List ℕ) → SearchedAs plan a owners
-        → searchedNumber a ≡ numberOf (searchCheck plan)
-    search-number-by plan finding.Found owners x = sym (ap numberOf (x .0))
-    search-number-by plan finding.None owners x = sym (ap numberOf (x .0))
-    search-number-by plan (finding.Refused k) owners x = refused-number (searchCheck plan) k (x .0)
+    let plan = idlePlan f n clients in
+    (searched-number plan (r .answer) (r .owners) is, search-numbered refusal.tooLarge (omega arith) plan)
 
 pub step-number : (plan : Plan) (arb : Arbiter) (xs : List ℕ)
     → (stepNumber (stepOf plan arb xs .answer .service) ≡ numberOf (stepCheck plan (arb .position) (length xs)))

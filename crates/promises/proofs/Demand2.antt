@@ -1,7 +1,7 @@
 -- Demand 2; judging and searching stand in Accepted.antt. Plan files: "Plans written are read back the same, and
 -- streams read are written back byte for byte". The hypotheses that a list holds bytes (Bytes) and that a plan's
--- numbers have two bytes (Held) are what the types say: the calls `rewritten` and `reread` of this crate show both, and
--- so do the contracts of `stream::read` and `stream::write`. Figures: the latency L/m is the least one of Definition 1,
+-- numbers have two bytes (Held) are what the types say: the contracts of `stream`'s `read`, `write`, `rewritten` and
+-- `reread` have none. Figures: the latency L/m is the least one of Definition 1,
 -- over the arbiter's runs.
 -- Assumes nothing.
 use mathlib.Core.Path.{_≡_, refl}
@@ -21,12 +21,12 @@ use Rattle.plan.specs.Check.{planCheck}
 use Rattle.plan.proofs.Laws.{plan-pass, used-same, same-used, same-check}
 use Rattle.stream.specs.Kind.{rowsOf}
 use Rattle.stream.specs.Read.{readCheck, readOf}
-use Rattle.stream.specs.Trip.{Held}
-use Rattle.stream.specs.Write.{streamOf}
+use Rattle.stream.specs.Trip.{Held, rereadOf}
+use Rattle.stream.specs.Write.{streamOf, longest}
 use Rattle.stream.specs.declared.Reading.{Reading}
 use Rattle.stream.proofs.Lengths.{length-stream, stream-sizes}
 use Rattle.stream.proofs.ReadBack.{read-back as stream-read-back}
-use Rattle.stream.proofs.Answers.{rewritten, reading-checked}
+use Rattle.stream.proofs.Answers.{read-rewritten, reading-checked}
 use Rattle.figures.specs.declared.Figure.{Figure}
 use Rattle.figures.specs.declared.Figures.the-variants as figures
 use Rattle.figures.specs.declared.Wait.the-variants as wait
@@ -34,9 +34,8 @@ use Rattle.figures.specs.Figures.{IsFigures, IsWaitFor}
 use Rattle.figures.proofs.Laws.{frame-of}
 use Rattle.figures.proofs.Questions.{figure-fine, wait-fine}
 use Rattle.figures.proofs.Answers.{given-fine, given-frame, given-scaled, given-owns, wait-given-fine, given-waits}
-use Rattle.arbiter.specs.Run.{IsLatencyOf}
-use Rattle.arbiter.proofs.Latency.{latency-runs}
-use Rattle.promises.specs.Trip.{rereadOf}
+use Rattle.arbiter.specs.Run.{SatisfiesEmptyOf, IsLatencyOf}
+use Rattle.arbiter.proofs.Latency.{least-empty-runs, latency-runs}
 use Rattle.promises.proofs.Demand1.{read-number, check-number}
 
 -- ---- plan files
@@ -48,7 +47,7 @@ not-refused s h = numbered-fine 11 (readCheck s) (read-number s) h
 
 -- what is read is written back byte for byte
 pub written-back : (s : List ℕ) → Bytes s → numberOf (readOf s .outcome) ≡ 0 → streamOf (readOf s .plan) ≡ s
-written-back s b h = rewritten s b refl (not-refused s h)
+written-back s b h = read-rewritten s b refl (not-refused s h)
 
 -- every plan that is read passes the checks
 pub read-checked : (s : List ℕ) → numberOf (readOf s .outcome) ≡ 0 → planCheck (readOf s .plan) ≡ Fine
@@ -74,7 +73,7 @@ reread-same plan other s = rw (same-check plan other s, same-used plan other s)
 pub record Sized (plan : Plan) : Type 0 where
   pub exact : length (streamOf plan) ≡ 4 + 10 * plan .n + 9 * rowsOf (plan .f)
   pub least : 23 ≤ length (streamOf plan)
-  pub most : length (streamOf plan) ≤ 156
+  pub most : length (streamOf plan) ≤ longest
 
 pub sized : (plan : Plan) → numberOf (planCheck plan) ≡ 0 → Sized plan
 sized plan h =
@@ -95,6 +94,17 @@ latency plan i figure is =
     let i< : i < plan .n = omega (arith, ok .high) in
     rw (right .slots)
     (latency-runs plan i i< (plan-pass plan (ok .checked)) frame (right .scaled) (ok .owns))
+
+-- no smaller one satisfies it even in the busy periods that start with an empty queue
+pub latency-empty : (plan : Plan) (i : ℕ) (figure : Figure) → IsFigures plan (i + 1) (figures.Given figure) → (x y : ℕ)
+    → SatisfiesEmptyOf plan i x y → figure .scaled * y ≤ x * figure .slots
+latency-empty plan i figure is x y sat =
+    let fine = given-fine plan (i + 1) figure is in
+    let ok = figure-fine plan (i + 1) fine in
+    let i< : i < plan .n = omega (arith, ok .high) in
+    rw (is .figure fine .slots)
+    (least-empty-runs plan i i< (plan-pass plan (ok .checked)) (frame-of plan (i + 1) (ok .checked .bounds .f-low))
+    (is .figure fine .scaled) x y sat)
 
 module _ (plan : Plan) (c : ℕ) (figure : Figure) (is : IsFigures plan c (figures.Given figure)) where
   f-high : plan .f ≤ 64

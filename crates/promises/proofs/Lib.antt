@@ -4,7 +4,6 @@ pub mod Demand1
 pub mod Demand2
 pub mod Accepted
 pub mod Demand3
-pub mod Trips
 pub mod Worked
 pub mod Tests
 pub mod Bench

@@ -18,13 +18,13 @@ use Rattle.records.specs.declared.Outcome.the-variants.{Fine, Refused}
 use Rattle.records.proofs.Checks.{false-true, both-true, last-or-below}
 use Rattle.plan.specs.declared.Client.{Client}
 use Rattle.plan.specs.declared.Plan.{Plan}
-use Rattle.plan.specs.Plan.{clientOf, ownOf}
+use Rattle.plan.specs.Plan.{clientOf, ownOf, withTable}
 use Rattle.figures.proofs.Laws.{frame-of}
 use Rattle.judge.specs.Rules.{hasRate, inTime, IsOk, IsLate}
 use Rattle.judge.specs.Judge.{Accepted}
 use Rattle.judge.proofs.Laws.{lengths-suffice, starts-suffice}
 use Rattle.explore.specs.Best.{Table, owned, LexLe, IsBest, NoTable}
-use Rattle.search.specs.Search.{withTable, AcceptedIn}
+use Rattle.search.specs.Search.{AcceptedIn}
 use Rattle.arbiter.specs.declared.Service.{Service}
 use Rattle.arbiter.specs.declared.Service.the-variants as service
 use Rattle.arbiter.specs.declared.Stepped.{Stepped}

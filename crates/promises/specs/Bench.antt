@@ -1,5 +1,5 @@
 -- The bench examples of document 01 that are marked P, 11 to 13 with them, two more schedules and two more steps: a
--- question, and the only answer that the contract allows. `bench` in proofs/Bench.antt proves them all.
+-- question, and the answer that its contract allows, and no other. `bench` in proofs/Bench.antt proves them all.
 use mathlib.Core.Path.{_≡_}
 use mathlib.Core.Bool.{Bool, true, false}
 use mathlib.Core.List.{List, [], _∷_}
@@ -12,15 +12,11 @@ use Rattle.records.specs.Pieces.{padded}
 use Rattle.plan.specs.declared.Client.{Client}
 use Rattle.plan.specs.declared.Plan.{Plan}
 use Rattle.plan.specs.Plan.{noClient}
-use Rattle.figures.specs.declared.Figures.{Figures}
-use Rattle.figures.specs.declared.Wait.{Wait}
 use Rattle.figures.specs.Figures.{figuresNumber, figureIn, IsFigures, waitNumber, waitIn, IsWaitFor}
-use Rattle.judge.specs.declared.Judged.{Judged}
 use Rattle.judge.specs.declared.Judged.the-variants as judged
 use Rattle.judge.specs.declared.Verdict.the-variants.{Late}
 use Rattle.judge.specs.Judge.{acceptance, IsJudged}
 use Rattle.search.specs.declared.Finding.the-variants as finding
-use Rattle.search.specs.declared.Searched.{Searched}
 use Rattle.search.specs.Search.{idlePlan, IsSearched}
 use Rattle.arbiter.specs.declared.Arbiter.{Arbiter}
 use Rattle.arbiter.specs.declared.Service.the-variants.{Given}
@@ -76,21 +72,28 @@ pub data Question : Type 0 where
   -- a step of the arbiter from this record, with these arrivals: what it gives
   steps : Plan → Arbiter → List ℕ → Stepped → Question
 
--- every answer that the contract allows is this one; only that of a step may be a refusal
+-- the contract Is allows an answer, and every answer that it allows is as This says
+pub record Answered {A : Type 0} (Is This : A → Type 0) : Type 0 where
+  pub answer : A
+  pub is : Is answer
+  pub only : (r : A) → Is r → This r
+
+-- the answer is this one; only that of a step may be a refusal
 abbrev pub Right : Question → Type 0
 Right (figure t m L) =
-    (r : Figures) → IsFigures (schedulePlan little t) 1 r
-    → (figuresNumber r ≡ 0) × (figureIn r .slots ≡ m) × (figureIn r .scaled ≡ L)
+    Answered (IsFigures (schedulePlan little t) 1)
+    (λ r. (figuresNumber r ≡ 0) × (figureIn r .slots ≡ m) × (figureIn r .scaled ≡ L))
 Right (waiting t k slots) =
-    (r : Wait) → IsWaitFor (schedulePlan little t) 1 k r → (waitNumber r ≡ 0) × (waitIn r ≡ slots)
-Right (accepted t client) = (r : Judged) → IsJudged (schedulePlan client t) r → r ≡ judged.Given acceptance
+    Answered (IsWaitFor (schedulePlan little t) 1 k) (λ r. (waitNumber r ≡ 0) × (waitIn r ≡ slots))
+Right (accepted t client) = Answered (IsJudged (schedulePlan client t)) (λ r. r ≡ judged.Given acceptance)
 Right (late t client s j) =
-    (r : Judged) → IsJudged (schedulePlan client t) r
-    → r ≡ judged.Given (record { client = 1; verdict = Late; start = s; length = j })
+    Answered (IsJudged (schedulePlan client t))
+    (λ r. r ≡ judged.Given (record { client = 1; verdict = Late; start = s; length = j }))
 Right (found f n client table) =
-    (r : Searched) → IsSearched (searchPlan f n client) r → (r .answer ≡ finding.Found) × (take f (r .owners) ≡ table)
-Right (none f n client) = (r : Searched) → IsSearched (searchPlan f n client) r → r .answer ≡ finding.None
-Right (steps plan arb xs goes) = (r : Stepped) → r ≡ stepOf plan arb xs → r ≡ goes
+    Answered (IsSearched (searchPlan f n client))
+    (λ r. (r .answer ≡ finding.Found) × (take f (r .owners) ≡ table))
+Right (none f n client) = Answered (IsSearched (searchPlan f n client)) (λ r. r .answer ≡ finding.None)
+Right (steps plan arb xs goes) = Answered (λ r. r ≡ stepOf plan arb xs) (λ r. r ≡ goes)
 
 -- all of a list are right
 abbrev pub AllRight : List Question → Type 0

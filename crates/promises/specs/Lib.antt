@@ -1,5 +1,4 @@
 -- The definitions of `promises`: a file rests only on those before it.
-pub mod Trip
 pub mod Readings
 pub mod Bench
 pub mod Verdict

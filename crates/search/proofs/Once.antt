@@ -1,11 +1,12 @@
 -- Any two answers that the contract of the search allows are equal: there is one best table, and either there is one or
--- there is none.
+-- there is none. An answer's number is that of its check.
 -- Assumes nothing.
 use mathlib.Core.Path.{_≡_, refl, sym, ap, _∙_}
 use mathlib.Core.Bool.{Bool, true, false}
 use mathlib.Core.List.{List, _++_}
 use Prim.Native.Nat.{ℕ}
 use lib.ListN.{take, drop, take-append-drop}
+use Rattle.records.specs.First.{numberOf}
 use Rattle.records.proofs.Checks.{refused-number, refused-fine}
 use Rattle.plan.specs.declared.Plan.{Plan}
 use Rattle.explore.specs.Best.{IsBest, NoTable}
@@ -13,7 +14,7 @@ use Rattle.explore.proofs.Order.{best-one}
 use Rattle.search.specs.declared.Finding.{Finding}
 use Rattle.search.specs.declared.Finding.the-variants as finding
 use Rattle.search.specs.declared.Searched.{Searched}
-use Rattle.search.specs.Search.{searchCheck, AcceptedIn, Finds, SearchedAs, IsSearched}
+use Rattle.search.specs.Search.{searchCheck, AcceptedIn, Finds, SearchedAs, IsSearched, searchedNumber}
 
 -- a list is its first f elements and the rest
 take-drop-one : (f : ℕ) (s t : List ℕ) → take f s ≡ take f t → drop f s ≡ drop f t → s ≡ t
@@ -51,6 +52,12 @@ module _ (plan : Plan) where
   searched-alike : (a b : Finding) (s t : List ℕ) → (a ≡ b) × (s ≡ t)
       → _≡_ {A = Searched} (record { answer = a; owners = s }) (record { answer = b; owners = t })
   searched-alike a b s t e = rw (e .0, e .1)
+
+  pub searched-number : (a : Finding) (owners : List ℕ) → SearchedAs plan a owners
+      → searchedNumber a ≡ numberOf (searchCheck plan)
+  searched-number finding.Found owners x = sym (ap numberOf (x .0))
+  searched-number finding.None owners x = sym (ap numberOf (x .0))
+  searched-number (finding.Refused k) owners x = refused-number (searchCheck plan) k (x .0)
 
   pub searched-once : (r r′ : Searched) → IsSearched plan r → IsSearched plan r′ → r ≡ r′
   searched-once r r′ is is′ =

@@ -11,12 +11,12 @@ use lib.Seq.{getD-take}
 use Rattle.records.specs.declared.Outcome.the-variants.{Fine}
 use Rattle.plan.specs.declared.Client.{Client}
 use Rattle.plan.specs.declared.Plan.{Plan}
-use Rattle.plan.specs.Plan.{noClient, Same}
+use Rattle.plan.specs.Plan.{noClient, Same, withTable}
 use Rattle.plan.proofs.Laws.{requirements-same}
 use Rattle.judge.proofs.Same.{all-same}
 use Rattle.search.specs.declared.Finding.{Finding}
 use Rattle.search.specs.declared.Finding.the-variants as finding
-use Rattle.search.specs.Search.{idlePlan, searchCheck, sizeCheck, withTable, AcceptedIn, Finds, SearchedAs}
+use Rattle.search.specs.Search.{idlePlan, searchCheck, sizeCheck, AcceptedIn, Finds, SearchedAs}
 use Rattle.search.proofs.Questions.{search-fine}
 use Rattle.search.proofs.Mending.{finds-same}
 

@@ -19,7 +19,7 @@ use Rattle.records.specs.First.{pick}
 use Rattle.records.specs.Pieces.{padded}
 use Rattle.records.proofs.Lists.{get-padded}
 use Rattle.plan.specs.declared.Plan.{Plan}
-use Rattle.plan.specs.Plan.{clientOf, ownerOf, isClient, ownIn, ownOf}
+use Rattle.plan.specs.Plan.{clientOf, ownerOf, isClient, ownIn, ownOf, withTable}
 use Rattle.plan.proofs.Laws.{client-most}
 use Rattle.figures.proofs.Laws.{place-first}
 use Rattle.judge.specs.declared.Verdict.{Verdict}
@@ -28,7 +28,6 @@ use Rattle.judge.specs.Rules.{IsVerdict}
 use Rattle.judge.specs.Judge.{ClientOk}
 use Rattle.judge.proofs.Once.{verdict-one}
 use Rattle.explore.specs.Needs.{childOf, nodeFrom, nodeOf}
-use Rattle.search.specs.Search.{withTable}
 use Rattle.search.specs.Mend.{idleOf}
 use Rattle.search.specs.Trees.{filledIn, filledAt, filled, Suits}
 use Rattle.search.proofs.Fillings.{get-filled}

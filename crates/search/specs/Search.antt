@@ -11,6 +11,7 @@ use Rattle.records.specs.declared.Outcome.{Outcome}
 use Rattle.records.specs.declared.Outcome.the-variants.{Fine}
 use Rattle.plan.specs.declared.Client.{Client}
 use Rattle.plan.specs.declared.Plan.{Plan}
+use Rattle.plan.specs.Plan.{withTable}
 use Rattle.plan.specs.Check.{requirementsCheck}
 use Rattle.judge.specs.Judge.{Accepted}
 use Rattle.explore.specs.Best.{IsBest, NoTable}
@@ -38,10 +39,6 @@ sizeCheck plan =
 -- "The search reads no owners: 5, 6, 8, 9, 16"
 unfoldable pub searchCheck : Plan → Outcome
 searchCheck plan = orElse (requirementsCheck plan) (sizeCheck plan)
-
--- a plan with another table
-abbrev pub withTable : Plan → List ℕ → Plan
-withTable plan t = record { f = plan .f; n = plan .n; clients = plan .clients; owners = t }
 
 -- a table is accepted where the plan that has it is
 abbrev pub AcceptedIn : Plan → List ℕ → Type 0

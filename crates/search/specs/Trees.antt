@@ -9,10 +9,9 @@ use Rattle.frame.specs.Frame.{within}
 use Rattle.records.specs.First.{pick}
 use Rattle.records.specs.Pieces.{firsts}
 use Rattle.plan.specs.declared.Plan.{Plan}
-use Rattle.plan.specs.Plan.{ownIn}
+use Rattle.plan.specs.Plan.{ownIn, withTable}
 use Rattle.judge.specs.Judge.{ClientOk}
 use Rattle.explore.specs.Needs.{nodeOf, needAt}
-use Rattle.search.specs.Search.{withTable}
 
 -- the owner of slot x of a frame of f slots that have these owners, when its idle slots are filled: an idle slot gets
 -- the owner whose place is the number of idle slots before it

@@ -11,6 +11,7 @@ use figures::inner::slots;
 use judge::Verdict;
 use judge::inner::verdict;
 use plan::Plan;
+use plan::with_table;
 use records::Outcome;
 use records::refusal;
 ghost use mathlib.Core.Path.{_≡_};
@@ -116,14 +117,7 @@ fn leaf(plan: Plan, g: usize, i: usize, node: usize) -> u8
     ensures { λ r. ⌜ ((v : List ℕ) → length v ≡ g → nodeOf (i + 1) v ≡ node → Suits plan i v r) ⌝ }
 {
     let filling = set_of(i + 1, g, node);
-    let table = fill(plan, filling);
-    let clients = plan.clients;
-    let tried = Plan {
-        f: plan.f,
-        n: plan.n,
-        clients: clients,
-        owners: table,
-    };
+    let tried = with_table(plan, fill(plan, filling));
     needed(verdict(tried, i + 1))
 }
 

@@ -14,6 +14,7 @@ use inner::verdict_code;
 use judge::Judged;
 use records::Outcome;
 use search::Finding;
+use stream::LONGEST;
 use stream::Written;
 use text::PAGE;
 
@@ -46,7 +47,7 @@ pub extern "C" fn speed_write(
     n: usize,
     words: &[u16; 32],
     owners: &[u8; 64],
-    out: &mut [u8; 156],
+    out: &mut [u8; LONGEST],
 ) -> usize {
     let plan = plan_in(f, n, words, owners);
     let written = stream::write(plan, out);

@@ -53,8 +53,8 @@ pub reading-checked : (s : List ℕ) (r : Reading) → r ≡ readOf s → r .out
 reading-checked s r e h = rw (reading-plan s r e h) (plan-right s (reading-found s r outcome.Fine e h))
 
 -- a stream of bytes that is read is written back
-pub rewritten : (s : List ℕ) {r : Reading} → Bytes s → r ≡ readOf s → Rewritten s r
-rewritten s {r} b e h = rw (reading-plan s r e h) (written-back s b (reading-found s r outcome.Fine e h))
+pub read-rewritten : (s : List ℕ) {r : Reading} → Bytes s → r ≡ readOf s → Rewritten s r
+read-rewritten s {r} b e h = rw (reading-plan s r e h) (written-back s b (reading-found s r outcome.Fine e h))
 
 -- ---- writing: r is the answer, now the lent output after
 
@@ -84,9 +84,9 @@ pub not-reread : (plan : Plan) (k : ℕ) (now : List ℕ) → Reread plan (writt
 not-reread plan k now size h = let z : _≡_ {A = ℕ} 0 1 = cc in absurd (omega arith)
 
 -- a plan that is written is read back
-pub reread : (plan : Plan) (rest : List ℕ) → Held plan → planCheck plan ≡ outcome.Fine
+pub write-reread : (plan : Plan) (rest : List ℕ) → Held plan → planCheck plan ≡ outcome.Fine
     → Reread plan (written.Bytes (length (streamOf plan))) (streamOf plan ++ rest)
-reread plan rest held h size e =
+write-reread plan rest held h size e =
     let n : size ≡ length (streamOf plan) = cc in
     ap (λ (k : ℕ). readOf (take k (streamOf plan ++ rest))) n
     ∙ ap readOf (take-at (streamOf plan) rest (length (streamOf plan)) refl)

@@ -12,7 +12,7 @@ use Rattle.plan.specs.declared.Plan.{Plan}
 use Rattle.plan.specs.Check.{planCheck}
 use Rattle.plan.proofs.Laws.{plan-fine}
 use Rattle.stream.specs.Kind.{headKind, clientKind, rowKind, endKind, wholeOf, rowsOf}
-use Rattle.stream.specs.Write.{clientBytes, clientRecord, rowRecord, streamOf}
+use Rattle.stream.specs.Write.{clientBytes, clientRecord, rowRecord, streamOf, longest}
 
 pub length-client : (number : ℕ) (c : Client) → length (clientBytes number c) ≡ wholeOf clientKind
 unfolding clientBytes
@@ -43,7 +43,7 @@ length-stream plan =
 
 -- "23 to 156 bytes"
 pub stream-sizes : (plan : Plan) → planCheck plan ≡ Fine
-    → (23 ≤ length (streamOf plan)) × (length (streamOf plan) ≤ 156)
+    → (23 ≤ length (streamOf plan)) × (length (streamOf plan) ≤ longest)
 stream-sizes plan h =
     let b = plan-fine plan h .bounds in
     let e = length-stream plan in

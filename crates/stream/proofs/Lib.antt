@@ -8,3 +8,4 @@ pub mod Same
 pub mod Numbers
 pub mod Offsets
 pub mod Answers
+pub mod Trips

@@ -4,19 +4,20 @@
 use mathlib.Core.Path.{_≡_, refl, ap, sym, _∙_}
 use mathlib.Core.Bool.{Bool, true, false}
 use mathlib.Core.List.{List}
+use mathlib.Core.Logic.{_≢_, ⊎-elim}
 use Prim.Native.Nat.{ℕ, zero, suc, _+_, _*_, _≤_, _<_, max}
 use native.Mathlib.Numerals.{add-one}
 use native.Mathlib.Omega.{arith}
 use lib.Dec.{eqb}
 use lib.ListN.{length, getD}
-use borrow.Author.Tests.{eqb-true, lt-ltb}
+use borrow.Author.Tests.{eqb-true, lt-ltb, le-leb, lt-leb, ne-eqb}
 use Rattle.records.specs.Refusal as refusal
 use Rattle.records.specs.First.{pick, firstOf}
 use Rattle.records.specs.Record.{recordCheck}
 use Rattle.records.specs.declared.Outcome.{Outcome}
 use Rattle.records.specs.declared.Outcome.the-variants.{Fine}
 use Rattle.records.proofs.Checks.{both-fine, need-fine, range-fine, first-fine, first-same}
-use Rattle.records.proofs.Checks.{record-fine, record-pass, record-body, over-fine}
+use Rattle.records.proofs.Checks.{below-or-not, record-fine, record-pass, record-body, over-fine}
 use Rattle.plan.specs.Check.{ownerCheck}
 use Rattle.plan.proofs.Laws.{Required, client-fine, owner-higher}
 use Rattle.stream.specs.Kind.{headKind, clientKind, rowKind, endKind, bodyOf, wholeOf}
@@ -24,6 +25,24 @@ use Rattle.stream.specs.Kind.{isReserved, classOf, rowsOf}
 use Rattle.stream.specs.Read.{fIn, nIn, after, place, dueCheck, headRead, clientAt, numberCheck, clientRead}
 use Rattle.stream.specs.Read.{clientDue, slotCheck, slotDue, rowRead, rowDue, endRead, toClients, toRows, toEnd}
 use Rattle.stream.specs.Read.{restRead, readCheck}
+
+-- ---- what a kind is
+
+-- 1, 2 and 3 are known, and not due where another kind is
+pub class-low : (due kind : ℕ) → kind ≢ 0 → kind < 4 → kind ≢ due → refusal.notDue ≡ classOf due kind
+unfolding classOf
+class-low due kind some low other =
+    simp (ne-eqb kind 0 some, lt-leb 4 kind low, lt-leb 10 kind (omega arith), ne-eqb kind due other)
+
+-- from 4 on all are reserved but 9
+pub class-high : (due kind : ℕ) → 4 ≤ kind → kind ≢ 9 → refusal.reserved ≡ classOf due kind
+unfolding classOf
+class-high due kind high other =
+    let some = ne-eqb kind 0 (λ e. omega (arith, e)) in
+    ⊎-elim
+    (λ (l : kind < 9). simp (some, le-leb 4 kind high, le-leb kind 8 (omega arith)))
+    (λ (l : 9 ≤ kind). simp (some, le-leb 4 kind high, lt-leb kind 8 (omega arith), le-leb 10 kind (omega arith)))
+    (below-or-not kind 9)
 
 -- ---- a record where a kind is due
 

@@ -2,13 +2,18 @@
 use mathlib.Core.Path.{_≡_}
 use mathlib.Core.List.{List}
 use Prim.Native.Nat.{ℕ, _<_}
-use lib.ListN.{take}
+use lib.Dec.{leb}
+use lib.ListN.{length, take}
+use Rattle.records.specs.Refusal as refusal
+use Rattle.records.specs.First.{need, orElse}
+use Rattle.records.specs.declared.Outcome.{Outcome}
 use Rattle.records.specs.declared.Outcome.the-variants as outcome
 use Rattle.plan.specs.declared.Client.{Client}
 use Rattle.plan.specs.declared.Plan.{Plan}
 use Rattle.plan.specs.Plan.{clientOf, used}
-use Rattle.stream.specs.Read.{readOf}
-use Rattle.stream.specs.Write.{streamOf}
+use Rattle.plan.specs.Check.{planCheck}
+use Rattle.stream.specs.Read.{readCheck, planIf, readOf}
+use Rattle.stream.specs.Write.{streamOf, writtenBy, bytesBy}
 use Rattle.stream.specs.declared.Reading.{Reading}
 use Rattle.stream.specs.declared.Written.{Written}
 use Rattle.stream.specs.declared.Written.the-variants as written
@@ -32,3 +37,18 @@ pub record Words (c : Client) : Type 0 where
 -- and that of a plan's clients
 abbrev pub Held : Plan → Type 0
 Held plan = (i : ℕ) → i < plan .n → Words (clientOf plan i)
+
+-- ---- the two trips as calls
+
+-- a stream s read and its plan written into room bytes: reading's refusals, then 12 where s itself does not fit
+unfoldable pub copyCheck : List ℕ → ℕ → Outcome
+copyCheck s room = orElse (readCheck s) (need (leb (length s) room) refusal.room 0)
+
+-- the answer, r, and the lent output after, now: s itself, and past it what stood there before
+pub record Copied (s out : List ℕ) (r : Written) (now : List ℕ) : Type 0 where
+  pub answer : r ≡ writtenBy (copyCheck s (length out)) (length s)
+  pub bytes : now ≡ bytesBy (copyCheck s (length out)) s out
+
+-- a plan written and its stream read: the plan's own refusals, and the plan itself, 0 past f and past n
+unfoldable pub rereadOf : Plan → Reading
+rereadOf plan = record { outcome = planCheck plan; plan = planIf (planCheck plan) (used plan) }

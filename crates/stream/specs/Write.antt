@@ -49,6 +49,10 @@ unfoldable pub streamOf : Plan → List ℕ
 streamOf plan =
     headRecord plan ++ many (clientRecord plan) (plan .n) ++ many (rowRecord plan) (rowsOf (plan .f)) ++ (endKind ∷ [])
 
+-- "The length is .. 23 to 156 bytes": that of the longest
+abbrev pub longest : ℕ
+longest = 156
+
 -- ---- a write into a lent output of this many bytes
 
 -- "All else that takes a plan checks it first .. Then: writing 12"

@@ -3,7 +3,7 @@ use records::refusal;
 use records::wide;
 ghost use mathlib.Core.Path.{_≡_};
 ghost use Prim.Native.Nat.{_*_, _<_, _≤_};
-ghost use Rattle.stream.specs.Kind.{clientKind, rowKind, bodyOf, wholeOf, classOf};
+ghost use Rattle.stream.specs.Kind.{headKind, clientKind, rowKind, endKind, bodyOf, wholeOf, classOf};
 
 pub const HEAD: u8 = 1; // f, n
 
@@ -47,12 +47,48 @@ pub fn rows_length(k: usize) -> usize
     whole_of(ROW) * k
 }
 
-// 0 where the kind is due; else the refusal, reserved or known but not due.
-pub fn class_of(due: u8, kind: u8) -> u8
-    ensures { λ r. ⌜ r ≡ classOf due kind ⌝ }
+// ---- what a kind is: 0 where it is due, else the refusal, known but not due or reserved
+
+// Where the head is due.
+pub fn class_for_head(kind: u8) -> u8
+    ensures { λ r. ⌜ r ≡ classOf headKind kind ⌝ }
 {
     match kind {
+        HEAD => 0,
+        CLIENT | ROW | END => refusal::NOT_DUE,
         0 | 4..=8 | 10..=255 => refusal::RESERVED,
-        _ => if kind == due { 0 } else { refusal::NOT_DUE },
+    }
+}
+
+// Where a client is due.
+pub fn class_for_client(kind: u8) -> u8
+    ensures { λ r. ⌜ r ≡ classOf clientKind kind ⌝ }
+{
+    match kind {
+        CLIENT => 0,
+        HEAD | ROW | END => refusal::NOT_DUE,
+        0 | 4..=8 | 10..=255 => refusal::RESERVED,
+    }
+}
+
+// Where a row is due.
+pub fn class_for_row(kind: u8) -> u8
+    ensures { λ r. ⌜ r ≡ classOf rowKind kind ⌝ }
+{
+    match kind {
+        ROW => 0,
+        HEAD | CLIENT | END => refusal::NOT_DUE,
+        0 | 4..=8 | 10..=255 => refusal::RESERVED,
+    }
+}
+
+// Where the end is due.
+pub fn class_for_end(kind: u8) -> u8
+    ensures { λ r. ⌜ r ≡ classOf endKind kind ⌝ }
+{
+    match kind {
+        END => 0,
+        HEAD | CLIENT | ROW => refusal::NOT_DUE,
+        0 | 4..=8 | 10..=255 => refusal::RESERVED,
     }
 }

@@ -1,5 +1,6 @@
 // Plan files. `read` gives any bytes the plan that they are the stream of, or the refusal and its offset; `write`
-// puts a plan's stream into a lent output. `kind` has the table of body lengths, `reader` and `writer` the records.
+// puts a plan's stream into a lent output; `rewritten` and `reread` are the two round trips as calls. `kind` has the
+// table of body lengths, `reader` and `writer` the records.
 pub mod kind; // kind.rt
 pub mod reader; // reader.rt
 pub mod writer; // writer.rt
@@ -10,7 +11,10 @@ use records::refusal;
 ghost use mathlib.Core.Path.{_≡_};
 ghost use Rattle.stream.specs.Read.{readOf};
 ghost use Rattle.stream.specs.Write.{Wrote};
-ghost use Rattle.stream.specs.Trip.{Rewritten, Reread};
+ghost use Rattle.stream.specs.Trip.{Rewritten, Reread, Copied, rereadOf};
+
+// The bytes of the longest stream.
+pub const LONGEST: usize = 156;
 
 // What a read gives: the plan where nothing is refused, else a plan with every number 0.
 pub struct Reading {
@@ -61,4 +65,36 @@ pub fn write(plan: Plan, out: &mut [u8]) -> Written
         return Written::Refused(refusal::ROOM);
     }
     Written::Bytes(writer::put_stream(out, plan))
+}
+
+// A stream is read and its plan is written: the stream's own bytes again, or its refusal, or 12.
+pub fn rewritten(s: &[u8], out: &mut [u8]) -> Written
+    ensures { λ r. ⌜ Copied (now (s .entry)) (now (out .entry)) r (now (out .exit)) ⌝ }
+{
+    let reading = read(s);
+    let outcome = reading.outcome;
+    let plan = reading.plan;
+    if let Outcome::Refused(number, _) = outcome {
+        return Written::Refused(number);
+    }
+    write(plan, out)
+}
+
+// A plan is written and its stream is read: the same plan, 0 past f and past n, or its refusal.
+pub fn reread(plan: Plan) -> Reading
+    ensures { λ r. ⌜ r ≡ rereadOf plan ⌝ }
+{
+    let mut bytes = [0u8; LONGEST];
+    let written = write(plan, &mut bytes);
+    match written {
+        Written::Bytes(size) => read(&bytes[..size]),
+        Written::Refused(number) => {
+            let outcome = Outcome::Refused(number, 0);
+            let none = plan::no_plan();
+            Reading {
+                outcome: outcome,
+                plan: none,
+            }
+        },
+    }
 }

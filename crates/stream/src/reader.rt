@@ -3,6 +3,7 @@ use super::kind;
 use plan::Client;
 use plan::Plan;
 use plan::inner;
+use plan::no_client;
 use records::Outcome;
 use records::check_over;
 use records::check_record;
@@ -19,18 +20,19 @@ ghost use Rattle.records.specs.Pieces.{padded};
 ghost use Rattle.records.specs.declared.Outcome.the-variants.{Fine};
 ghost use Rattle.plan.specs.Plan.{noClient};
 ghost use Rattle.plan.specs.Check.{ownerCheck};
-ghost use Rattle.stream.specs.Kind.{headKind, clientKind, rowKind, wholeOf, rowsOf};
+ghost use Rattle.stream.specs.Kind.{headKind, clientKind, rowKind, wholeOf, classOf, rowsOf};
 ghost use Rattle.stream.specs.Read.{toClients, place, dueCheck, headRead, clientAt, numberCheck, clientRead};
 ghost use Rattle.stream.specs.Read.{clientDue, slotCheck, slotDue, rowRead, rowDue, endRead};
 ghost use Rattle.stream.specs.Read.{restRead, readCheck, clientIn, ownerIn, planOf};
 
 // ---- checks
 
-// A record where a kind is due: 1, 2, 3, 1. The body is looked at only where its kind is the one due.
-fn check_due(s: &[u8], at: usize, due: u8) -> Outcome
+// A record where a kind is due, its kind byte being of this class there: 1, 2, 3, 1. The body is looked at only where
+// its kind is the one due.
+fn check_due(s: &[u8], at: usize, due: u8, class: u8) -> Outcome
+    requires { ⌜ class ≡ classOf due (getD (now s) at 0) ⌝ }
     ensures { λ r. ⌜ r ≡ dueCheck (now (s .entry)) at due ⌝ }
 {
-    let class = kind::class_of(due, kind_at(s, at));
     check_record(s, at, class, kind::body_of(due))
 }
 
@@ -38,7 +40,8 @@ fn check_due(s: &[u8], at: usize, due: u8) -> Outcome
 fn check_head(s: &[u8]) -> Outcome
     ensures { λ r. ⌜ r ≡ headRead (now (s .entry)) ⌝ }
 {
-    let due = check_due(s, 0, kind::HEAD);
+    let class = kind::class_for_head(kind_at(s, 0));
+    let due = check_due(s, 0, kind::HEAD, class);
     if let Outcome::Refused(number, offset) = due {
         return Outcome::Refused(number, offset);
     }
@@ -74,7 +77,8 @@ fn check_number(found: u8, number: usize, at: usize) -> Outcome
 fn check_client(s: &[u8], at: usize, number: usize) -> Outcome
     ensures { λ r. ⌜ r ≡ clientRead (now (s .entry)) at number ⌝ }
 {
-    let due = check_due(s, at, kind::CLIENT);
+    let class = kind::class_for_client(kind_at(s, at));
+    let due = check_due(s, at, kind::CLIENT, class);
     if let Outcome::Refused(refused, offset) = due {
         return Outcome::Refused(refused, offset);
     }
@@ -158,7 +162,8 @@ fn check_row(s: &[u8], f: usize, n: usize, at: usize, j: usize) -> Outcome
     requires { ⌜ j < 8 ⌝ }
     ensures { λ r. ⌜ r ≡ rowRead (now (s .entry)) f n at j ⌝ }
 {
-    let due = check_due(s, at, kind::ROW);
+    let class = kind::class_for_row(kind_at(s, at));
+    let due = check_due(s, at, kind::ROW, class);
     if let Outcome::Refused(number, offset) = due {
         return Outcome::Refused(number, offset);
     }
@@ -192,7 +197,8 @@ fn check_end(s: &[u8], at: usize) -> Outcome
     requires { ⌜ at ≤ 65536 ⌝ }
     ensures { λ r. ⌜ r ≡ endRead (now (s .entry)) at ⌝ }
 {
-    let due = check_due(s, at, kind::END);
+    let class = kind::class_for_end(kind_at(s, at));
+    let due = check_due(s, at, kind::END, class);
     if let Outcome::Refused(number, offset) = due {
         return Outcome::Refused(number, offset);
     }
@@ -235,13 +241,7 @@ fn clients_in(s: &[u8], at: usize, n: usize) -> [Client; 8]
     requires { ⌜ (at ≤ 4096) × (n ≤ 8) × (firstOf (clientDue (now s) at) n ≡ Fine) ⌝ }
     ensures { λ r. ⌜ r ≡ padded (clientIn (now (s .entry)) at) n 8 noClient ⌝ }
 {
-    let none = Client {
-        p: 0,
-        q: 0,
-        a: 0,
-        b: 0,
-    };
-    let mut clients = [none; 8];
+    let mut clients = [no_client(); 8];
     let mut to = at;
     let mut i = 0;
     while i < n {

@@ -6,18 +6,6 @@ use Rattle.capi.proofs.Laws.{told, listed}
 use Rattle.capi.proofs.gwelathur_judge.Statement.{statement}
 use Rattle.capi.proofs.gwelathur_judge.Tie as tie
 
-read-requires : tie.Need-read-requires
-read-requires c κs = search needs
-
-judge-requires : tie.Need-judge-requires
-judge-requires c κs = search needs
-
-tell-judged-requires : tie.Need-tell-judged-requires
-tell-judged-requires c κs = search needs
-
-first-number-requires : tie.Need-first-number-requires
-first-number-requires c κs = search needs
-
 returns : tie.Need-returns
 returns c =
     let asked = c .before .before .before .before .before .before .judge in
@@ -29,4 +17,4 @@ returns c =
 pub gwelathur-judge-spec : {M : Type 1} → statement M
 gwelathur-judge-spec =
     tie.close
-    (tie.spec read-requires judge-requires tell-judged-requires first-number-requires returns)
+    (tie.spec (λ c κs. search needs) (λ c κs. search needs) (λ c κs. search needs) (λ c κs. search needs) returns)

@@ -7,12 +7,6 @@ use Rattle.stream.specs.declared.Reading.{Reading}
 use Rattle.capi.proofs.gwelathur_read.Statement.{statement}
 use Rattle.capi.proofs.gwelathur_read.Tie as tie
 
-read-requires : tie.Need-read-requires
-read-requires c κs = search needs
-
-tell-outcome-requires : tie.Need-tell-outcome-requires
-tell-outcome-requires c κs = search needs
-
 returns : tie.Need-returns
 returns c =
     let tell = c .tell-outcome .ensures in
@@ -23,4 +17,4 @@ returns c =
     }
 
 pub gwelathur-read-spec : {M : Type 1} → statement M
-gwelathur-read-spec = tie.close (tie.spec read-requires tell-outcome-requires returns)
+gwelathur-read-spec = tie.close (tie.spec (λ c κs. search needs) (λ c κs. search needs) returns)

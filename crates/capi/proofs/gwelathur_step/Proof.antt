@@ -5,21 +5,9 @@ use Rattle.capi.proofs.Laws.{told-step, step-small}
 use Rattle.capi.proofs.gwelathur_step.Statement.{statement}
 use Rattle.capi.proofs.gwelathur_step.Tie as tie
 
-read-requires : tie.Need-read-requires
-read-requires c κs = search needs
-
-record-in-requires : tie.Need-record-in-requires
-record-in-requires c κs = search needs
-
-step-requires : tie.Need-step-requires
-step-requires c κs = search needs
-
 tell-stepped-requires : tie.Need-tell-stepped-requires
 tell-stepped-requires c κs =
     rw (c .before .before .step .ensures) (step-small _ _ _ (c .before .before .before .record-in .ensures .1))
-
-first-number-requires : tie.Need-first-number-requires
-first-number-requires c κs = search needs
 
 returns : tie.Need-returns
 returns c =
@@ -34,9 +22,9 @@ pub gwelathur-step-spec : {M : Type 1} → statement M
 gwelathur-step-spec =
     tie.close
     (tie.spec
-    read-requires
-    record-in-requires
-    step-requires
+    (λ c κs. search needs)
+    (λ c κs. search needs)
+    (λ c κs. search needs)
     tell-stepped-requires
-    first-number-requires
+    (λ c κs. search needs)
     returns)

@@ -6,18 +6,6 @@ use Rattle.capi.proofs.Laws.{told, listed}
 use Rattle.capi.proofs.gwelathur_verdict.Statement.{statement}
 use Rattle.capi.proofs.gwelathur_verdict.Tie as tie
 
-read-requires : tie.Need-read-requires
-read-requires c κs = search needs
-
-verdict-of-requires : tie.Need-verdict-of-requires
-verdict-of-requires c κs = search needs
-
-tell-verdict-requires : tie.Need-tell-verdict-requires
-tell-verdict-requires c κs = search needs
-
-first-number-requires : tie.Need-first-number-requires
-first-number-requires c κs = search needs
-
 returns : tie.Need-returns
 returns c =
     let asked = c .before .before .before .verdict-of in
@@ -30,8 +18,8 @@ pub gwelathur-verdict-spec : {M : Type 1} → statement M
 gwelathur-verdict-spec =
     tie.close
     (tie.spec
-    read-requires
-    verdict-of-requires
-    tell-verdict-requires
-    first-number-requires
+    (λ c κs. search needs)
+    (λ c κs. search needs)
+    (λ c κs. search needs)
+    (λ c κs. search needs)
     returns)

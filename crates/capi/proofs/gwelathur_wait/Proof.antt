@@ -6,18 +6,6 @@ use Rattle.capi.proofs.Laws.{told, listed}
 use Rattle.capi.proofs.gwelathur_wait.Statement.{statement}
 use Rattle.capi.proofs.gwelathur_wait.Tie as tie
 
-read-requires : tie.Need-read-requires
-read-requires c κs = search needs
-
-wait-for-requires : tie.Need-wait-for-requires
-wait-for-requires c κs = search needs
-
-tell-wait-requires : tie.Need-tell-wait-requires
-tell-wait-requires c κs = search needs
-
-first-number-requires : tie.Need-first-number-requires
-first-number-requires c κs = search needs
-
 returns : tie.Need-returns
 returns c =
     let asked = c .before .before .before .wait-for in
@@ -29,4 +17,4 @@ returns c =
 pub gwelathur-wait-spec : {M : Type 1} → statement M
 gwelathur-wait-spec =
     tie.close
-    (tie.spec read-requires wait-for-requires tell-wait-requires first-number-requires returns)
+    (tie.spec (λ c κs. search needs) (λ c κs. search needs) (λ c κs. search needs) (λ c κs. search needs) returns)

@@ -7,17 +7,8 @@ use Rattle.plan.proofs.Laws.{plan-fine}
 use Rattle.judge.proofs.judge.Statement.{statement}
 use Rattle.judge.proofs.judge.Tie as tie
 
-check-requires : tie.Need-check-requires
-check-requires c κs = search needs
-
-enum-known-checked : tie.Need-enum-known-checked
-enum-known-checked c = search needs
-
 returns : tie.Need-returns
 returns c = refuses (c .before .before .before .check .ensures) (c .before .checked .given .1)
-
-enum-told : tie.Need-enum-told
-enum-told c = search needs
 
 first-failure-requires : tie.Need-first-failure-requires
 first-failure-requires c κs =
@@ -32,4 +23,4 @@ returns-2 c =
 pub judge-spec : {M : Type 1} → statement M
 judge-spec =
     tie.close
-    (tie.spec check-requires enum-known-checked returns enum-told first-failure-requires returns-2)
+    (tie.spec (λ c κs. search needs) (λ c. search needs) returns (λ c. search needs) first-failure-requires returns-2)

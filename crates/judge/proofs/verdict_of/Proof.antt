@@ -4,21 +4,12 @@ use mathlib.Core.Path.{sym, _∙_}
 use native.Mathlib.Omega.{arith}
 use borrow.Author.Needs.{needs}
 use Rattle.records.proofs.Checks.{refuses}
-use Rattle.figures.proofs.Questions.{asked-fine}
+use Rattle.plan.proofs.Laws.{asked-fine}
 use Rattle.judge.proofs.verdict_of.Statement.{statement}
 use Rattle.judge.proofs.verdict_of.Tie as tie
 
-check-asked-requires : tie.Need-check-asked-requires
-check-asked-requires c κs = search needs
-
-enum-known-asked : tie.Need-enum-known-asked
-enum-known-asked c = search needs
-
 returns : tie.Need-returns
 returns c = refuses (c .before .before .before .check-asked .ensures) (c .before .asked .given .1)
-
-enum-told : tie.Need-enum-told
-enum-told c = search needs
 
 verdict-requires : tie.Need-verdict-requires
 verdict-requires c κs =
@@ -35,4 +26,4 @@ returns-2 c =
 pub verdict-of-spec : {M : Type 1} → statement M
 verdict-of-spec =
     tie.close
-    (tie.spec check-asked-requires enum-known-asked returns enum-told verdict-requires returns-2)
+    (tie.spec (λ c κs. search needs) (λ c. search needs) returns (λ c. search needs) verdict-requires returns-2)

@@ -7,15 +7,6 @@ use Rattle.listing.proofs.Laws.{refused-put, plan-put}
 use Rattle.listing.proofs.report.Statement.{statement}
 use Rattle.listing.proofs.report.Tie as tie
 
-read-requires : tie.Need-read-requires
-read-requires c κs = search needs
-
-enum-known-outcome : tie.Need-enum-known-outcome
-enum-known-outcome c = search needs
-
-put-refusal-requires : tie.Need-put-refusal-requires
-put-refusal-requires c κs = search needs
-
 returns : tie.Need-returns
 returns c =
     let told = c .before .before .before .outcome .given .1 in
@@ -24,9 +15,6 @@ returns c =
     let s = at-read .before .before .args .s .now in
     let put = c .put-refusal .ensures in
     (refused-put IsReportOf s (read .result) _ _ (read .ensures .0) told (put .0), put .1)
-
-enum-told : tie.Need-enum-told
-enum-told c = search needs
 
 put-report-requires : tie.Need-put-report-requires
 put-report-requires c κs =
@@ -48,10 +36,10 @@ pub report-spec : {M : Type 1} → statement M
 report-spec =
     tie.close
     (tie.spec
-    read-requires
-    enum-known-outcome
-    put-refusal-requires
+    (λ c κs. search needs)
+    (λ c. search needs)
+    (λ c κs. search needs)
     returns
-    enum-told
+    (λ c. search needs)
     put-report-requires
     returns-2)

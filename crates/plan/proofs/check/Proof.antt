@@ -8,20 +8,11 @@ use Rattle.plan.proofs.Laws.{requirements-fine}
 use Rattle.plan.proofs.check.Statement.{statement}
 use Rattle.plan.proofs.check.Tie as tie
 
-check-requirements-requires : tie.Need-check-requirements-requires
-check-requirements-requires c κs = search needs
-
-enum-known-requirements : tie.Need-enum-known-requirements
-enum-known-requirements c = search needs
-
 returns : tie.Need-returns
 unfolding planCheck
 returns c =
     let check-requirements = c .before .before .before .check-requirements in
     stops _ (check-requirements .ensures) (c .before .requirements .given .1)
-
-enum-told : tie.Need-enum-told
-enum-told c = search needs
 
 check-owners-requires : tie.Need-check-owners-requires
 check-owners-requires c κs =
@@ -39,9 +30,9 @@ pub check-spec : {M : Type 1} → statement M
 check-spec =
     tie.close
     (tie.spec
-    check-requirements-requires
-    enum-known-requirements
+    (λ c κs. search needs)
+    (λ c. search needs)
     returns
-    enum-told
+    (λ c. search needs)
     check-owners-requires
     returns-2)

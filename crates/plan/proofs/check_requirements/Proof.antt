@@ -8,26 +8,11 @@ use Rattle.plan.specs.Check.{requirementsCheck}
 use Rattle.plan.proofs.check_requirements.Statement.{statement}
 use Rattle.plan.proofs.check_requirements.Tie as tie
 
-check-frame-requires : tie.Need-check-frame-requires
-check-frame-requires c κs = search needs
-
-enum-known-frame : tie.Need-enum-known-frame
-enum-known-frame c = search needs
-
 returns : tie.Need-returns
 unfolding requirementsCheck
 returns c =
     let check-frame = c .before .before .before .check-frame in
     stops _ (check-frame .ensures) (c .before .frame .given .1)
-
-enum-told : tie.Need-enum-told
-enum-told c = search needs
-
-check-count-requires : tie.Need-check-count-requires
-check-count-requires c κs = search needs
-
-enum-known-count : tie.Need-enum-known-count
-enum-known-count c = search needs
 
 returns-2 : tie.Need-returns-2
 unfolding requirementsCheck
@@ -36,9 +21,6 @@ returns-2 c =
     let enum-told = c .before .before .before .before .enum-told in
     let check-count = c .before .before .before .check-count in
     passes (check-frame .ensures) (enum-told .given .1) (stops _ (check-count .ensures) (c .before .count .given .1))
-
-enum-told-2 : tie.Need-enum-told-2
-enum-told-2 c = search needs
 
 check-clients-requires : tie.Need-check-clients-requires
 check-clients-requires c κs =
@@ -59,13 +41,13 @@ pub check-requirements-spec : {M : Type 1} → statement M
 check-requirements-spec =
     tie.close
     (tie.spec
-    check-frame-requires
-    enum-known-frame
+    (λ c κs. search needs)
+    (λ c. search needs)
     returns
-    enum-told
-    check-count-requires
-    enum-known-count
+    (λ c. search needs)
+    (λ c κs. search needs)
+    (λ c. search needs)
     returns-2
-    enum-told-2
+    (λ c. search needs)
     check-clients-requires
     returns-3)

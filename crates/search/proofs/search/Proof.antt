@@ -12,17 +12,8 @@ use Rattle.search.proofs.Mending.{idle-owners, idle-slots, mends-accept
 use Rattle.search.proofs.search.Statement.{statement}
 use Rattle.search.proofs.search.Tie as tie
 
-check-search-requires : tie.Need-check-search-requires
-check-search-requires c κs = search needs
-
-enum-known-checked : tie.Need-enum-known-checked
-enum-known-checked c = search needs
-
 returns : tie.Need-returns
 returns c = (refuses (c .before .before .before .check-search .ensures) (c .before .checked .given .1), refl)
-
-enum-told : tie.Need-enum-told
-enum-told c = search needs
 
 mend-requires : tie.Need-mend-requires
 mend-requires c κs =
@@ -57,10 +48,10 @@ pub search-spec : {M : Type 1} → statement M
 search-spec =
     tie.close
     (tie.spec
-    check-search-requires
-    enum-known-checked
+    (λ c κs. search needs)
+    (λ c. search needs)
     returns
-    enum-told
+    (λ c. search needs)
     mend-requires
     returns-2
     returns-3)

@@ -4,49 +4,37 @@
 use mathlib.Core.Path.{sym, _∙_}
 use native.Mathlib.Omega.{arith}
 use borrow.Author.Needs.{needs}
-use Rattle.stream.proofs.Answers.{read-given, read-refused, rewritten}
+use Rattle.stream.proofs.Answers.{read-given, read-refused, read-rewritten}
 use Rattle.stream.proofs.read.Statement.{statement}
 use Rattle.stream.proofs.read.Tie as tie
-
-check-stream-requires : tie.Need-check-stream-requires
-check-stream-requires c κs = search needs
-
-enum-told : tie.Need-enum-told
-enum-told c = search needs
 
 plan-at-requires : tie.Need-plan-at-requires
 plan-at-requires c κs =
     let check-stream = c .before .before .check-stream in
     sym (check-stream .ensures) ∙ c .enum-told .given .1
 
-enum-told-2 : tie.Need-enum-told-2
-enum-told-2 c = search needs
-
-no-plan-requires : tie.Need-no-plan-requires
-no-plan-requires c κs = search needs
-
 returns : tie.Need-returns
 returns c =
     let shared-slice-known = c .before .before .before .before .shared-slice-known in
     let check-stream = c .before .before .before .check-stream in
     let e = read-given _ (check-stream .ensures) (c .before .enum-told .given .1) (c .plan-at .ensures) in
-    (e, rewritten _ (λ i. omega (arith, shared-slice-known .given i)) e)
+    (e, read-rewritten _ (λ i. omega (arith, shared-slice-known .given i)) e)
 
 returns-2 : tie.Need-returns-2
 returns-2 c =
     let shared-slice-known = c .before .before .before .before .shared-slice-known in
     let check-stream = c .before .before .before .check-stream in
     let e = read-refused _ (check-stream .ensures) (c .before .enum-told2 .given .1) (c .no-plan .ensures) in
-    (e, rewritten _ (λ i. omega (arith, shared-slice-known .given i)) e)
+    (e, read-rewritten _ (λ i. omega (arith, shared-slice-known .given i)) e)
 
 pub read-spec : {M : Type 1} → statement M
 read-spec =
     tie.close
     (tie.spec
-    check-stream-requires
-    enum-told
+    (λ c κs. search needs)
+    (λ c. search needs)
     plan-at-requires
-    enum-told-2
-    no-plan-requires
+    (λ c. search needs)
+    (λ c κs. search needs)
     returns
     returns-2)

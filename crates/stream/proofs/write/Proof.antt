@@ -9,15 +9,9 @@ use borrow.Author.Needs.{needs}
 use Rattle.records.proofs.Puts.{put-front}
 use Rattle.plan.proofs.Laws.{plan-fine}
 use Rattle.stream.specs.Write.{streamOf}
-use Rattle.stream.proofs.Answers.{plan-refused, room-refused, write-given, not-reread, reread}
+use Rattle.stream.proofs.Answers.{plan-refused, room-refused, write-given, not-reread, write-reread}
 use Rattle.stream.proofs.write.Statement.{statement}
 use Rattle.stream.proofs.write.Tie as tie
-
-check-requires : tie.Need-check-requires
-check-requires c κs = search needs
-
-enum-known-outcome : tie.Need-enum-known-outcome
-enum-known-outcome c = search needs
 
 returns : tie.Need-returns
 returns c =
@@ -26,9 +20,6 @@ returns c =
     let plan = args .plan in
     let out = args .out .now in
     (plan-refused plan out (sym (check .ensures) ∙ c .before .outcome .given .1), not-reread plan _ out)
-
-enum-told : tie.Need-enum-told
-enum-told c = search needs
 
 stream-length-requires : tie.Need-stream-length-requires
 stream-length-requires c κs =
@@ -55,9 +46,6 @@ put-stream-requires c κs =
     let b = plan-fine (args .plan) (sym (check .ensures) ∙ enum-told .given .1) .bounds in
     (b .f-high, b .n-high, omega arith)
 
-same-length : tie.Need-same-length
-same-length c = search needs
-
 returns-3 : tie.Need-returns-3
 returns-3 c =
     let args = c .before .before .before .before .before .before .before .before .before .before .args in
@@ -72,18 +60,18 @@ returns-3 c =
     let n : length (streamOf plan) ≤ length out = omega (arith, stream-length .ensures) in
     let size : put-stream .result ≡ length (streamOf plan) = put .0 .place ∙ zero-add (length (streamOf plan)) in
     let now = put-front (put .0) n in
-    rw (size, now) (write-given plan out fine n, reread plan (drop (length (streamOf plan)) out) (put .1) fine)
+    rw (size, now) (write-given plan out fine n, write-reread plan (drop (length (streamOf plan)) out) (put .1) fine)
 
 pub write-spec : {M : Type 1} → statement M
 write-spec =
     tie.close
     (tie.spec
-    check-requires
-    enum-known-outcome
+    (λ c κs. search needs)
+    (λ c. search needs)
     returns
-    enum-told
+    (λ c. search needs)
     stream-length-requires
     returns-2
     put-stream-requires
-    same-length
+    (λ c. search needs)
     returns-3)

@@ -5,18 +5,6 @@ use borrow.Author.Needs.{needs}
 use Rattle.capi.proofs.inner.tell_judged.Statement.{statement}
 use Rattle.capi.proofs.inner.tell_judged.Tie as tie
 
-enum-known-answer : tie.Need-enum-known-answer
-enum-known-answer c = search needs
-
-code-of-requires : tie.Need-code-of-requires
-code-of-requires c κs = search needs
-
-enum-known-answer-2 : tie.Need-enum-known-answer-2
-enum-known-answer-2 c = search needs
-
-wide-requires : tie.Need-wide-requires
-wide-requires c κs = search needs
-
 returns : tie.Need-returns
 returns c = rw (c .before .before .answer .given .1) (refl, refl, c .code-of .ensures, refl, refl)
 
@@ -27,9 +15,9 @@ pub tell-judged-spec : {M : Type 1} → statement M
 tell-judged-spec =
     tie.close
     (tie.spec
-    enum-known-answer
-    code-of-requires
-    enum-known-answer-2
-    wide-requires
+    (λ c. search needs)
+    (λ c κs. search needs)
+    (λ c. search needs)
+    (λ c κs. search needs)
     returns
     returns-2)

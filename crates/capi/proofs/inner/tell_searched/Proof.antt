@@ -5,32 +5,24 @@ use native.Mathlib.Omega.{arith}
 use lib.ListN.{length}
 use borrow.Author.Needs.{needs}
 use Rattle.records.proofs.Puts.{none}
+use Rattle.stream.specs.Write.{longest}
 use Rattle.capi.proofs.Laws.{found-fits}
 use Rattle.capi.proofs.inner.tell_searched.Statement.{statement}
 use Rattle.capi.proofs.inner.tell_searched.Tie as tie
 
-enum-told : tie.Need-enum-told
-enum-told c = search needs
-
 put-stream-requires : tie.Need-put-stream-requires
 put-stream-requires c κs =
-    let args = c .before .before .before .before .before .args in
     let start = c .before .before .before .before .before in
-    let fits = found-fits (args .plan) _ (args .searched .owners) (start .pre) (c .before .enum-told .given .1) in
-    let room : length (args .out .now) ≡ 156 = search needs in
-    (fits .0, fits .1, omega (arith, fits .2, room))
-
-enum-told-2 : tie.Need-enum-told-2
-enum-told-2 c = search needs
-
-enum-known-answer : tie.Need-enum-known-answer
-enum-known-answer c = search needs
-
-wide-requires : tie.Need-wide-requires
-wide-requires c κs = search needs
+    let args = start .args in
+    let told = c .before .before .enum-told .given .1 in
+    let fits = found-fits (args .plan) _ (args .searched .owners) (start .pre) told in
+    let room : length (args .out .now) ≡ longest = search needs in
+    rw (c .with-table .ensures) (fits .0, fits .1, omega (arith, fits .2, room))
 
 returns : tie.Need-returns
-returns c = rw (c .before .before .enum-told .given .1) (refl, c .put-stream .ensures .0)
+returns c =
+    let put = rw (c .before .with-table .ensures) at (c .put-stream .ensures .0) in
+    rw (c .before .before .before .enum-told .given .1) (refl, put)
 
 returns-2 : tie.Need-returns-2
 returns-2 c = rw (c .enum-told2 .given .1) (refl, none _ 0)
@@ -42,11 +34,12 @@ pub tell-searched-spec : {M : Type 1} → statement M
 tell-searched-spec =
     tie.close
     (tie.spec
-    enum-told
+    (λ c. search needs)
+    (λ c κs. search needs)
     put-stream-requires
-    enum-told-2
-    enum-known-answer
-    wide-requires
+    (λ c. search needs)
+    (λ c. search needs)
+    (λ c κs. search needs)
     returns
     returns-2
     returns-3)

@@ -7,21 +7,6 @@ use borrow.Author.Needs.{needs}
 use Rattle.capi.proofs.inner.tell_stepped.Statement.{statement}
 use Rattle.capi.proofs.inner.tell_stepped.Tie as tie
 
-cast-put-nine : tie.Need-cast-put-nine
-cast-put-nine c = search needs
-
-put-nine-requires : tie.Need-put-nine-requires
-put-nine-requires c κs = search needs
-
-served-of-requires : tie.Need-served-of-requires
-served-of-requires c κs = search needs
-
-put-nine-requires-2 : tie.Need-put-nine-requires-2
-put-nine-requires-2 c κs = search needs
-
-number-of-requires : tie.Need-number-of-requires
-number-of-requires c κs = search needs
-
 returns : tie.Need-returns
 returns c =
     let start = c .before .before .before .before .before .before .before .before .before .before .before in
@@ -34,9 +19,9 @@ pub tell-stepped-spec : {M : Type 1} → statement M
 tell-stepped-spec =
     tie.close
     (tie.spec
-    cast-put-nine
-    put-nine-requires
-    served-of-requires
-    put-nine-requires-2
-    number-of-requires
+    (λ c. search needs)
+    (λ c κs. search needs)
+    (λ c κs. search needs)
+    (λ c κs. search needs)
+    (λ c κs. search needs)
     returns)

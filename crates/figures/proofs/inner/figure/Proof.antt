@@ -7,9 +7,6 @@ use Rattle.plan.specs.Plan.{ownOf}
 use Rattle.figures.proofs.inner.figure.Statement.{statement}
 use Rattle.figures.proofs.inner.figure.Tie as tie
 
-scaled-requires : tie.Need-scaled-requires
-scaled-requires c κs = search needs
-
 returns : tie.Need-returns
 returns c =
     let args = c .before .args in
@@ -17,4 +14,4 @@ returns c =
     record { slots = m; scaled = rw m at (c .scaled .ensures) }
 
 pub figure-spec : {M : Type 1} → statement M
-figure-spec = tie.close (tie.spec scaled-requires returns)
+figure-spec = tie.close (tie.spec (λ c κs. search needs) returns)

@@ -39,17 +39,11 @@ lack-of-requires c κs =
     let counted = count-small (plan .owners) (plan .f) (args .client) (args .s) (loop .j) (omega arith) in
     (omega arith, omega arith, omega arith, omega arith)
 
-larger-requires : tie.Need-larger-requires Inv-loop μ-loop
-larger-requires c κs = search needs
-
 array-read-owner : tie.Need-array-read-owner Inv-loop μ-loop
 array-read-owner c =
     let args = c .before .before .before .before .before .args in
     let loop = c .before .before .before .loop in
     omega (arith, in-frame (args .plan .f) (args .s) (loop .j) (loop .at) (omega arith) (loop .inv .3))
-
-owned-by-requires : tie.Need-owned-by-requires Inv-loop μ-loop
-owned-by-requires c κs = search needs
 
 add-w : tie.Need-add-w Inv-loop μ-loop
 add-w c =
@@ -65,12 +59,6 @@ next-requires c κs =
     let args = c .before .before .before .before .before .before .args in
     let loop = c .before .before .before .before .loop in
     in-frame (args .plan .f) (args .s) (loop .j) (loop .at) (omega arith) (loop .inv .3)
-
-add-j : tie.Need-add-j Inv-loop μ-loop
-add-j c = search needs
-
-loop-less : tie.Need-loop-less Inv-loop μ-loop
-loop-less c = search needs
 
 loop-again : tie.Need-loop-again Inv-loop μ-loop
 loop-again c =
@@ -106,12 +94,12 @@ lack-from-spec =
     μ-loop
     loop-holds
     lack-of-requires
-    larger-requires
+    (λ c κs. search needs)
     array-read-owner
-    owned-by-requires
+    (λ c κs. search needs)
     add-w
     next-requires
-    add-j
-    loop-less
+    (λ c. search needs)
+    (λ c. search needs)
     loop-again
     returns)

@@ -12,14 +12,5 @@ mul-due c = let args = c .args in omega (arith, product-small (args .m) (args .j
 mul-got : tie.Need-mul-got
 mul-got c = let args = c .args in omega (arith, product-small (args .f) (args .w) (omega arith) (omega arith))
 
-sub-result : tie.Need-sub-result
-sub-result c = search needs
-
-returns : tie.Need-returns
-returns c = search needs
-
-returns-2 : tie.Need-returns-2
-returns-2 c = search needs
-
 pub lack-of-spec : {M : Type 1} → statement M
-lack-of-spec = tie.close (tie.spec mul-due mul-got sub-result returns returns-2)
+lack-of-spec = tie.close (tie.spec mul-due mul-got (λ c. search needs) (λ c. search needs) (λ c. search needs))

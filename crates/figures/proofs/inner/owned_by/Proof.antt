@@ -7,9 +7,6 @@ use Rattle.plan.proofs.Laws.{client-is, client-not}
 use Rattle.figures.proofs.inner.owned_by.Statement.{statement}
 use Rattle.figures.proofs.inner.owned_by.Tie as tie
 
-wide-requires : tie.Need-wide-requires
-wide-requires c κs = search needs
-
 returns : tie.Need-returns
 returns c =
     let args = c .before .before .args in
@@ -21,4 +18,4 @@ returns-2 c =
     sym (client-not (args .client) (args .owner) (λ e. omega (arith, c .before .wide .ensures .0)))
 
 pub owned-by-spec : {M : Type 1} → statement M
-owned-by-spec = tie.close (tie.spec wide-requires returns returns-2)
+owned-by-spec = tie.close (tie.spec (λ c κs. search needs) returns returns-2)

@@ -30,15 +30,6 @@ lack-from-requires c κs =
     let m = count-small (plan .owners) (plan .f) (args .client) 0 (plan .f) (omega arith) in
     (omega arith, omega arith, omega arith)
 
-larger-requires : tie.Need-larger-requires Inv-loop μ-loop
-larger-requires c κs = search needs
-
-add-s : tie.Need-add-s Inv-loop μ-loop
-add-s c = search needs
-
-loop-less : tie.Need-loop-less Inv-loop μ-loop
-loop-less c = search needs
-
 loop-again : tie.Need-loop-again Inv-loop μ-loop
 loop-again c =
     let args = c .before .before .before .before .args in
@@ -59,4 +50,13 @@ returns c =
 pub scaled-spec : {M : Type 1} → statement M
 scaled-spec =
     tie.close
-    (tie.spec Inv-loop μ-loop loop-holds lack-from-requires larger-requires add-s loop-less loop-again returns)
+    (tie.spec
+    Inv-loop
+    μ-loop
+    loop-holds
+    lack-from-requires
+    (λ c κs. search needs)
+    (λ c. search needs)
+    (λ c. search needs)
+    loop-again
+    returns)

@@ -22,12 +22,6 @@ loop-holds : tie.Need-loop-holds Inv-loop μ-loop
 unfolding within
 loop-holds c = (omega arith, refl)
 
-array-read-owner : tie.Need-array-read-owner Inv-loop μ-loop
-array-read-owner c = search needs
-
-owned-by-requires : tie.Need-owned-by-requires Inv-loop μ-loop
-owned-by-requires c κs = search needs
-
 add-m : tie.Need-add-m Inv-loop μ-loop
 add-m c =
     let args = c .before .before .before .before .args in
@@ -36,12 +30,6 @@ add-m c =
     let counted = count-small (plan .owners) (plan .f) (args .client) 0 (loop .at) (omega arith) in
     let most = client-most (args .client) (getD (plan .owners) (loop .at) 0) in
     omega (arith, c .owned-by .ensures)
-
-add-at : tie.Need-add-at Inv-loop μ-loop
-add-at c = search needs
-
-loop-less : tie.Need-loop-less Inv-loop μ-loop
-loop-less c = search needs
 
 loop-again : tie.Need-loop-again Inv-loop μ-loop
 loop-again c =
@@ -68,10 +56,10 @@ slots-spec =
     Inv-loop
     μ-loop
     loop-holds
-    array-read-owner
-    owned-by-requires
+    (λ c. search needs)
+    (λ c κs. search needs)
     add-m
-    add-at
-    loop-less
+    (λ c. search needs)
+    (λ c. search needs)
     loop-again
     returns)

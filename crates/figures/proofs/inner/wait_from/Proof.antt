@@ -11,18 +11,6 @@ use Rattle.figures.proofs.Answers.{given-fine, figure-small, waits-refu
 use Rattle.figures.proofs.inner.wait_from.Statement.{statement}
 use Rattle.figures.proofs.inner.wait_from.Tie as tie
 
-enum-known-figures : tie.Need-enum-known-figures
-enum-known-figures c = search needs
-
-enum-known-figures-2 : tie.Need-enum-known-figures-2
-enum-known-figures-2 c = search needs
-
-check-range-requires : tie.Need-check-range-requires
-check-range-requires c κs = search needs
-
-enum-known-asked : tie.Need-enum-known-asked
-enum-known-asked c = search needs
-
 returns : tie.Need-returns
 returns c =
     let range = c .before .before .before .check-range in
@@ -32,9 +20,6 @@ returns c =
     let fine = given-fine (args .plan) (args .client) _ (rw (given .given .1) at (start .pre)) in
     let refused = sym (c .before .asked .given .1) ∙ range .ensures in
     waits-refused (args .plan) (args .client) (args .waiting) _ _ fine refused
-
-enum-told : tie.Need-enum-told
-enum-told c = search needs
 
 wait-of-requires : tie.Need-wait-of-requires
 wait-of-requires c κs =
@@ -70,12 +55,12 @@ pub wait-from-spec : {M : Type 1} → statement M
 wait-from-spec =
     tie.close
     (tie.spec
-    enum-known-figures
-    enum-known-figures-2
-    check-range-requires
-    enum-known-asked
+    (λ c. search needs)
+    (λ c. search needs)
+    (λ c κs. search needs)
+    (λ c. search needs)
     returns
-    enum-told
+    (λ c. search needs)
     wait-of-requires
     returns-2
     returns-3)

@@ -21,16 +21,10 @@ add-due c =
     let args = c .before .args in
     omega (arith, product (args .waiting) (args .f) (omega arith) (omega arith))
 
-sub-result : tie.Need-sub-result
-sub-result c = search needs
-
 add-result : tie.Need-add-result
 add-result c =
     let args = c .before .args in
     omega (arith, product (args .waiting) (args .f) (omega arith) (omega arith))
-
-div-result : tie.Need-div-result
-div-result c = search needs
 
 returns : tie.Need-returns
 returns c =
@@ -39,4 +33,4 @@ returns c =
     wait-by (args .f) (figure .slots) (figure .scaled) (args .waiting) _ (omega arith) (omega arith)
 
 pub wait-of-spec : {M : Type 1} → statement M
-wait-of-spec = tie.close (tie.spec mul-due add-due sub-result add-result div-result returns)
+wait-of-spec = tie.close (tie.spec mul-due add-due (λ c. search needs) add-result (λ c. search needs) returns)

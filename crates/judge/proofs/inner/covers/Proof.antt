@@ -18,9 +18,6 @@ mul-times c = let a = c .args in omega (arith, product-small (a .m) (a .j) (omeg
 times-requires : tie.Need-times-requires
 times-requires c κs = let a = c .args in omega (arith, product-small (a .m) (a .j) (omega arith) (omega arith))
 
-times-requires-2 : tie.Need-times-requires-2
-times-requires-2 c κs = search needs
-
 mul-times-2 : tie.Need-mul-times-2
 mul-times-2 c =
     let a = c .before .before .args in
@@ -58,7 +55,7 @@ covers-spec =
     (tie.spec
     mul-times
     times-requires
-    times-requires-2
+    (λ c κs. search needs)
     mul-times-2
     times-requires-3
     add-result

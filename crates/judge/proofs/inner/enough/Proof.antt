@@ -11,12 +11,6 @@ use Rattle.judge.specs.Rules.{enough}
 use Rattle.judge.proofs.inner.enough.Statement.{statement}
 use Rattle.judge.proofs.inner.enough.Tie as tie
 
-times-requires : tie.Need-times-requires
-times-requires c κs = search needs
-
-times-requires-2 : tie.Need-times-requires-2
-times-requires-2 c κs = search needs
-
 compared : (x : Client) (f m due got : ℕ) → due ≡ f * x .p → got ≡ m * x .q → leb due got ≡ enough x f m
 unfolding enough
 compared x f m due got e h = rw (e, h, mul-comm f (x .p))
@@ -30,4 +24,4 @@ returns c =
     compared x (args .f) (args .m) _ _ due got
 
 pub enough-spec : {M : Type 1} → statement M
-enough-spec = tie.close (tie.spec times-requires times-requires-2 returns)
+enough-spec = tie.close (tie.spec (λ c κs. search needs) (λ c κs. search needs) returns)

@@ -51,27 +51,11 @@ abbrev μ-clients : tie.MeasureT-clients
 clients-holds : tie.Need-clients-holds Inv-lengths μ-lengths Inv-starts μ-starts Inv-clients μ-clients
 clients-holds c = (omega arith, record { each = λ i l h. absurd (omega arith) }, refl)
 
-mul-required : tie.Need-mul-required Inv-lengths μ-lengths Inv-starts μ-starts Inv-clients μ-clients
-mul-required c = omega arith
-
-array-copy-out-required :
-    tie.Need-array-copy-out-required Inv-lengths μ-lengths Inv-starts μ-starts Inv-clients μ-clients
-array-copy-out-required c = omega arith
-
-add-slots : tie.Need-add-slots Inv-lengths μ-lengths Inv-starts μ-starts Inv-clients μ-clients
-add-slots c = omega arith
-
-slots-requires : tie.Need-slots-requires Inv-lengths μ-lengths Inv-starts μ-starts Inv-clients μ-clients
-slots-requires c κs = omega arith
-
 enough-requires : tie.Need-enough-requires Inv-lengths μ-lengths Inv-starts μ-starts Inv-clients μ-clients
 enough-requires c κs =
-    let plan = c .before .before .before .before .before .before .args .plan in
+    let plan = c .before .before .before .before .before .before .before .args .plan in
     let client = c .before .before .before .clients .i + 1 in
     (omega arith, omega (arith, slots-small plan client _ (c .slots .ensures) (omega arith)))
-
-add-t23 : tie.Need-add-t23 Inv-lengths μ-lengths Inv-starts μ-starts Inv-clients μ-clients
-add-t23 c = omega arith
 
 starts-holds : tie.Need-starts-holds Inv-lengths μ-lengths Inv-starts μ-starts Inv-clients μ-clients
 starts-holds c = (omega arith, λ t l. absurd (omega arith), refl)
@@ -79,7 +63,7 @@ starts-holds c = (omega arith, λ t l. absurd (omega arith), refl)
 lengths-holds : tie.Need-lengths-holds Inv-lengths μ-lengths Inv-starts μ-starts Inv-clients μ-clients
 lengths-holds c =
     let in-starts = c .before in
-    let plan = in-starts .before .before .before .before .before .before .before .before .before .args .plan in
+    let plan = in-starts .before .before .before .before .before .before .before .before .before .before .args .plan in
     let place = place-zero (plan .f) (in-starts .starts .s) (omega arith) in
     (omega arith, sym (within-none _ _), omega (arith, place), λ k l. absurd (omega arith), refl)
 
@@ -89,33 +73,24 @@ covers-requires c κs =
     let in-starts = c .before .before .before in
     let slots = in-starts .before .before .before .slots in
     let in-clients = in-starts .before .before .before .before .before .before in
-    let plan = in-clients .before .before .before .args .plan in
+    let plan = in-clients .before .before .before .before .args .plan in
     let client = in-clients .clients .i + 1 in
     let w = count-small (plan .owners) (plan .f) client (in-starts .starts .s) (lengths .j) (omega arith) in
     (omega arith, slots-small plan client _ (slots .ensures) (omega arith), omega arith, omega arith)
-
-add-t28 : tie.Need-add-t28 Inv-lengths μ-lengths Inv-starts μ-starts Inv-clients μ-clients
-add-t28 c = omega arith
 
 array-read-owner : tie.Need-array-read-owner Inv-lengths μ-lengths Inv-starts μ-starts Inv-clients μ-clients
 array-read-owner c =
     let lengths = c .before .before .before .lengths in
     let in-starts = c .before .before .before .before .before in
-    let plan = in-starts .before .before .before .before .before .before .before .before .before .args .plan in
+    let plan = in-starts .before .before .before .before .before .before .before .before .before .before .args .plan in
     omega (arith, in-frame (plan .f) (in-starts .starts .s) (lengths .j) (lengths .at) (omega arith) (lengths .inv .2))
-
-add-owned-by : tie.Need-add-owned-by Inv-lengths μ-lengths Inv-starts μ-starts Inv-clients μ-clients
-add-owned-by c = omega arith
-
-owned-by-requires : tie.Need-owned-by-requires Inv-lengths μ-lengths Inv-starts μ-starts Inv-clients μ-clients
-owned-by-requires c κs = search needs
 
 add-w : tie.Need-add-w Inv-lengths μ-lengths Inv-starts μ-starts Inv-clients μ-clients
 add-w c =
     let lengths = c .before .before .before .before .lengths in
     let in-starts = c .before .before .before .before .before .before in
     let in-clients = in-starts .before .before .before .before .before .before in
-    let plan = in-clients .before .before .before .args .plan in
+    let plan = in-clients .before .before .before .before .args .plan in
     let client = in-clients .clients .i + 1 in
     let w = count-small (plan .owners) (plan .f) client (in-starts .starts .s) (lengths .j) (omega arith) in
     let one = client-most client (getD (plan .owners) (lengths .at) 0) in
@@ -125,14 +100,8 @@ next-requires : tie.Need-next-requires Inv-lengths μ-lengths Inv-starts μ-star
 next-requires c κs =
     let lengths = c .before .before .before .before .lengths in
     let in-starts = c .before .before .before .before .before .before in
-    let plan = in-starts .before .before .before .before .before .before .before .before .before .args .plan in
+    let plan = in-starts .before .before .before .before .before .before .before .before .before .before .args .plan in
     in-frame (plan .f) (in-starts .starts .s) (lengths .j) (lengths .at) (omega arith) (lengths .inv .2)
-
-add-j : tie.Need-add-j Inv-lengths μ-lengths Inv-starts μ-starts Inv-clients μ-clients
-add-j c = omega arith
-
-lengths-less : tie.Need-lengths-less Inv-lengths μ-lengths Inv-starts μ-starts Inv-clients μ-clients
-lengths-less c = omega arith
 
 lengths-again : tie.Need-lengths-again Inv-lengths μ-lengths Inv-starts μ-starts Inv-clients μ-clients
 lengths-again c =
@@ -141,7 +110,7 @@ lengths-again c =
     let in-starts = c .before .before .before .before .before .before .before in
     let slots = in-starts .before .before .before .slots in
     let in-clients = in-starts .before .before .before .before .before .before in
-    let plan = in-clients .before .before .before .args .plan in
+    let plan = in-clients .before .before .before .before .args .plan in
     let i = in-clients .clients .i in
     let own = ownOf plan (i + 1) in
     let s = in-starts .starts .s in
@@ -158,12 +127,6 @@ lengths-again c =
       lengths .inv .4,
     )
 
-add-s : tie.Need-add-s Inv-lengths μ-lengths Inv-starts μ-starts Inv-clients μ-clients
-add-s c = omega arith
-
-starts-less : tie.Need-starts-less Inv-lengths μ-lengths Inv-starts μ-starts Inv-clients μ-clients
-starts-less c = omega arith
-
 starts-again : tie.Need-starts-again Inv-lengths μ-lengths Inv-starts μ-starts Inv-clients μ-clients
 starts-again c =
     let lengths = c .before .lengths in
@@ -172,7 +135,7 @@ starts-again c =
     let rate = in-starts .before .before .enough in
     let slots = in-starts .before .before .before .slots in
     let in-clients = in-starts .before .before .before .before .before .before in
-    let plan = in-clients .before .before .before .args .plan in
+    let plan = in-clients .before .before .before .before .args .plan in
     let i = in-clients .clients .i in
     let x = clientOf plan i in
     let tested = rate-tested x (ownOf plan (i + 1)) (plan .f) _ _ (rate .ensures) (omega (arith, slots .ensures)) in
@@ -181,19 +144,13 @@ starts-again c =
     let here = lengths-suffice x frame rates (starts .s) (λ k l. lengths .inv .3 k (omega arith)) in
     (omega arith, below-more _ _ (starts .inv .1) here, lengths .inv .4 ∙ starts .inv .2)
 
-add-i : tie.Need-add-i Inv-lengths μ-lengths Inv-starts μ-starts Inv-clients μ-clients
-add-i c = omega arith
-
-clients-less : tie.Need-clients-less Inv-lengths μ-lengths Inv-starts μ-starts Inv-clients μ-clients
-clients-less c = omega arith
-
 clients-again : tie.Need-clients-again Inv-lengths μ-lengths Inv-starts μ-starts Inv-clients μ-clients
 clients-again c =
     let starts = c .before .starts in
     let rate = c .before .before .before .enough in
     let in-clients = c .before .before .before .before .before .before .before in
     let clients = in-clients .clients in
-    let args = in-clients .before .before .before .args in
+    let args = in-clients .before .before .before .before .args in
     let plan = args .plan in
     let i = clients .i in
     let x = clientOf plan i in
@@ -210,14 +167,14 @@ clients-again c =
 returns : tie.Need-returns Inv-lengths μ-lengths Inv-starts μ-starts Inv-clients μ-clients
 returns c =
     let clients = c .before .clients in
-    rw (clients .inv .2)
+    rw (clients .inv .2, c .before .before .acceptance .ensures)
     (record { each = λ i low high. clients .inv .1 .each i low (omega arith) }, refl, refl, refl)
 
 returns-2 : tie.Need-returns-2 Inv-lengths μ-lengths Inv-starts μ-starts Inv-clients μ-clients
 returns-2 c =
     let rate = c .before .enough in
     let clients = c .before .before .before .before .before .clients in
-    let args = c .before .before .before .before .before .before .before .before .args in
+    let args = c .before .before .before .before .before .before .before .before .before .args in
     let plan = args .plan in
     let i = clients .i in
     let slots = c .before .before .slots in
@@ -236,7 +193,7 @@ returns-3 c =
     let slots = in-starts .before .before .before .slots in
     let in-clients = in-starts .before .before .before .before .before .before in
     let clients = in-clients .clients in
-    let args = in-clients .before .before .before .args in
+    let args = in-clients .before .before .before .before .args in
     let plan = args .plan in
     let i = clients .i in
     let x = clientOf plan i in
@@ -261,30 +218,31 @@ first-failure-spec =
     μ-starts
     Inv-clients
     μ-clients
+    (λ c κs. search needs)
     clients-holds
-    mul-required
-    array-copy-out-required
-    add-slots
-    slots-requires
+    (λ c. omega arith)
+    (λ c. omega arith)
+    (λ c. omega arith)
+    (λ c κs. omega arith)
     enough-requires
-    add-t23
+    (λ c. omega arith)
     starts-holds
     lengths-holds
     covers-requires
-    add-t28
+    (λ c. omega arith)
     array-read-owner
-    add-owned-by
-    owned-by-requires
+    (λ c. omega arith)
+    (λ c κs. search needs)
     add-w
     next-requires
-    add-j
-    lengths-less
+    (λ c. omega arith)
+    (λ c. omega arith)
     lengths-again
-    add-s
-    starts-less
+    (λ c. omega arith)
+    (λ c. omega arith)
     starts-again
-    add-i
-    clients-less
+    (λ c. omega arith)
+    (λ c. omega arith)
     clients-again
     returns
     returns-2

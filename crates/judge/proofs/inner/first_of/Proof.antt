@@ -5,15 +5,6 @@ use Rattle.judge.proofs.Laws.{first-stops, judged-on}
 use Rattle.judge.proofs.inner.first_of.Statement.{statement}
 use Rattle.judge.proofs.inner.first_of.Tie as tie
 
-enum-told : tie.Need-enum-told
-enum-told c = search needs
-
-enum-told-2 : tie.Need-enum-told-2
-enum-told-2 c = search needs
-
-enum-told-3 : tie.Need-enum-told-3
-enum-told-3 c = search needs
-
 returns : tie.Need-returns
 returns c plan from mid to low high first second =
     let all = rw (c .enum-told .given .1) at first in
@@ -32,4 +23,12 @@ returns-3 c plan from mid to low high first second =
     rw e (first-stops plan from mid to _ _ high (rw e at first))
 
 pub first-of-spec : {M : Type 1} → statement M
-first-of-spec = tie.close (tie.spec enum-told enum-told-2 enum-told-3 returns returns-2 returns-3)
+first-of-spec =
+    tie.close
+    (tie.spec
+    (λ c. search needs)
+    (λ c. search needs)
+    (λ c. search needs)
+    returns
+    returns-2
+    returns-3)

@@ -6,12 +6,6 @@ use Rattle.judge.proofs.Laws.{verdict-by}
 use Rattle.judge.proofs.inner.verdict.Statement.{statement}
 use Rattle.judge.proofs.inner.verdict.Tie as tie
 
-sub-first-failure : tie.Need-sub-first-failure
-sub-first-failure c = search needs
-
-first-failure-requires : tie.Need-first-failure-requires
-first-failure-requires c κs = search needs
-
 returns : tie.Need-returns
 returns c =
     let args = c .before .args in
@@ -19,4 +13,4 @@ returns c =
     verdict-by (args .plan) _ (args .client) (omega arith) (found .verdict) _ _ _ (c .first-failure .ensures)
 
 pub verdict-spec : {M : Type 1} → statement M
-verdict-spec = tie.close (tie.spec sub-first-failure first-failure-requires returns)
+verdict-spec = tie.close (tie.spec (λ c. search needs) (λ c κs. search needs) returns)

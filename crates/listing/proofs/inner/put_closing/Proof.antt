@@ -10,18 +10,6 @@ use Rattle.listing.proofs.Laws.{closes-ok, closes-refused}
 use Rattle.listing.proofs.inner.put_closing.Statement.{statement}
 use Rattle.listing.proofs.inner.put_closing.Tie as tie
 
-enum-told : tie.Need-enum-told
-enum-told c = search needs
-
-slice-aggregate-put : tie.Need-slice-aggregate-put
-slice-aggregate-put c = search needs
-
-put-requires : tie.Need-put-requires
-put-requires c κs = search needs
-
-put-refused-requires : tie.Need-put-refused-requires
-put-refused-requires c κs = search needs
-
 returns : tie.Need-returns
 returns c =
     let found = c .before .before .before .before .before .args .found in
@@ -39,4 +27,4 @@ returns-2 c =
 pub put-closing-spec : {M : Type 1} → statement M
 put-closing-spec =
     tie.close
-    (tie.spec enum-told slice-aggregate-put put-requires put-refused-requires returns returns-2)
+    (tie.spec (λ c. search needs) (λ c. search needs) (λ c κs. search needs) (λ c κs. search needs) returns returns-2)

@@ -9,7 +9,7 @@ use Rattle.plan.proofs.Laws.{plan-fine}
 use Rattle.text.specs.Text.{Lines, Puts, Lendable}
 use Rattle.text.proofs.Laws.{puts-none, then-line}
 use Rattle.listing.specs.Listing.{IsHomingLine}
-use Rattle.listing.proofs.Laws.{homing-line-put}
+use Rattle.listing.proofs.Laws.{client-asked, homing-line-put}
 use Rattle.listing.proofs.inner.put_homing.Statement.{statement}
 use Rattle.listing.proofs.inner.put_homing.Tie as tie
 
@@ -25,25 +25,15 @@ loop-holds c =
     let none = puts-none (IsHomingLine (c .args .plan)) (c .args .out .now) 0 in
     (omega arith, omega arith, none, λ h. absurd (omega arith))
 
-add-homing-wait : tie.Need-add-homing-wait Inv-loop μ-loop
-add-homing-wait c = search needs
-
 homing-wait-requires : tie.Need-homing-wait-requires Inv-loop μ-loop
-homing-wait-requires c κs = search needs
-
-add-put-homing-line : tie.Need-add-put-homing-line Inv-loop μ-loop
-add-put-homing-line c = search needs
+homing-wait-requires c κs =
+    let start = c .before .before in
+    client-asked (start .args .plan) (c .before .loop .i) (start .pre) (omega arith)
 
 put-homing-line-requires : tie.Need-put-homing-line-requires Inv-loop μ-loop
 put-homing-line-requires c κs =
     let start = c .before .before .before .before in
     omega (arith, plan-fine (start .args .plan) (start .pre) .bounds .n-high)
-
-add-i : tie.Need-add-i Inv-loop μ-loop
-add-i c = search needs
-
-loop-less : tie.Need-loop-less Inv-loop μ-loop
-loop-less c = search needs
 
 loop-again : tie.Need-loop-again Inv-loop μ-loop
 loop-again c =
@@ -69,11 +59,11 @@ put-homing-spec =
     Inv-loop
     μ-loop
     loop-holds
-    add-homing-wait
+    (λ c. search needs)
     homing-wait-requires
-    add-put-homing-line
+    (λ c. search needs)
     put-homing-line-requires
-    add-i
-    loop-less
+    (λ c. search needs)
+    (λ c. search needs)
     loop-again
     returns)

@@ -7,24 +7,6 @@ use Rattle.listing.specs.Listing.{homingLine}
 use Rattle.listing.proofs.inner.put_homing_line.Statement.{statement}
 use Rattle.listing.proofs.inner.put_homing_line.Tie as tie
 
-put-decimal-requires : tie.Need-put-decimal-requires
-put-decimal-requires c κs = search needs
-
-slice-aggregate-put : tie.Need-slice-aggregate-put
-slice-aggregate-put c = search needs
-
-put-requires : tie.Need-put-requires
-put-requires c κs = search needs
-
-put-wait-requires : tie.Need-put-wait-requires
-put-wait-requires c κs = search needs
-
-slice-aggregate-put-2 : tie.Need-slice-aggregate-put-2
-slice-aggregate-put-2 c = search needs
-
-put-requires-2 : tie.Need-put-requires-2
-put-requires-2 c κs = search needs
-
 returns : tie.Need-returns
 unfolding homingLine
 returns c =
@@ -37,10 +19,10 @@ pub put-homing-line-spec : {M : Type 1} → statement M
 put-homing-line-spec =
     tie.close
     (tie.spec
-    put-decimal-requires
-    slice-aggregate-put
-    put-requires
-    put-wait-requires
-    slice-aggregate-put-2
-    put-requires-2
+    (λ c κs. search needs)
+    (λ c. search needs)
+    (λ c κs. search needs)
+    (λ c κs. search needs)
+    (λ c. search needs)
+    (λ c κs. search needs)
     returns)

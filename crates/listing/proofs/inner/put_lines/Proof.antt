@@ -9,6 +9,7 @@ use Rattle.plan.proofs.Laws.{plan-fine}
 use Rattle.text.specs.Text.{Lines, Puts}
 use Rattle.text.proofs.Laws.{puts-none, then-line}
 use Rattle.judge.specs.Judge.{IsJudgement}
+use Rattle.judge.proofs.Laws.{judged-none}
 use Rattle.listing.specs.Listing.{IsReportLine}
 use Rattle.listing.proofs.Laws.{judged-verdict, line-put}
 use Rattle.listing.proofs.inner.put_lines.Statement.{statement}
@@ -21,36 +22,25 @@ Inv-loop out₀ at plan n next₀ found₀ i₀ out next found i =
 abbrev μ-loop : tie.MeasureT-loop
 μ-loop out₀ at plan n next₀ found₀ i₀ out next found i = n - i
 
-first-failure-requires : tie.Need-first-failure-requires Inv-loop μ-loop
-first-failure-requires c κs =
-    let bounds = plan-fine (c .args .plan) (c .pre .0) .bounds in
-    (bounds .f-low, bounds .f-high, omega arith)
-
 loop-holds : tie.Need-loop-holds Inv-loop μ-loop
 loop-holds c =
     let args = c .before .args in (
       omega arith,
       omega arith,
       puts-none (IsReportLine (args .plan)) (args .out .now) (args .at),
-      c .first-failure .ensures,
+      rw (c .acceptance .ensures) (judged-none (args .plan) 0),
     )
 
-add-first-failure : tie.Need-add-first-failure Inv-loop μ-loop
-add-first-failure c = search needs
-
-first-failure-requires-2 : tie.Need-first-failure-requires-2 Inv-loop μ-loop
-first-failure-requires-2 c κs =
+first-failure-requires : tie.Need-first-failure-requires Inv-loop μ-loop
+first-failure-requires c κs =
     let start = c .before .before .before in
     let bounds = plan-fine (start .args .plan) (start .pre .0) .bounds in
     (bounds .f-low, bounds .f-high, omega (arith, bounds .n-high))
 
-add-line-of : tie.Need-add-line-of Inv-loop μ-loop
-add-line-of c = search needs
-
 line-of-requires : tie.Need-line-of-requires Inv-loop μ-loop
 line-of-requires c κs =
     let start = c .before .before .before .before in
-    let judged = c .first-failure2 in
+    let judged = c .first-failure in
     judged-verdict (start .args .plan) (c .before .before .loop .i) (judged .result) (start .pre .0) (omega arith)
     (judged .ensures)
 
@@ -59,20 +49,11 @@ put-line-requires c κs =
     let start = c .before .before .before .before .before .before in
     omega (arith, plan-fine (start .args .plan) (start .pre .0) .bounds .n-high)
 
-first-of-requires : tie.Need-first-of-requires Inv-loop μ-loop
-first-of-requires c κs = search needs
-
-add-i : tie.Need-add-i Inv-loop μ-loop
-add-i c = search needs
-
-loop-less : tie.Need-loop-less Inv-loop μ-loop
-loop-less c = search needs
-
 loop-again : tie.Need-loop-again Inv-loop μ-loop
 loop-again c =
     let plan = c .before .before .before .before .before .before .before .before .args .plan in
     let loop = c .before .before .before .before .before .before .loop in
-    let judged = c .before .before .before .before .first-failure2 .ensures in
+    let judged = c .before .before .before .before .first-failure .ensures in
     let line = c .before .before .before .line-of in
     let line = line-put plan (loop .i) (line .result) (line .ensures) (c .before .put-line .ensures .0) in (
       omega arith,
@@ -95,15 +76,15 @@ put-lines-spec =
     (tie.spec
     Inv-loop
     μ-loop
-    first-failure-requires
+    (λ c κs. search needs)
     loop-holds
-    add-first-failure
-    first-failure-requires-2
-    add-line-of
+    (λ c. search needs)
+    first-failure-requires
+    (λ c. search needs)
     line-of-requires
     put-line-requires
-    first-of-requires
-    add-i
-    loop-less
+    (λ c κs. search needs)
+    (λ c. search needs)
+    (λ c. search needs)
     loop-again
     returns)

@@ -5,18 +5,6 @@ use Rattle.listing.proofs.Laws.{closing-put, report-put}
 use Rattle.listing.proofs.inner.put_report.Statement.{statement}
 use Rattle.listing.proofs.inner.put_report.Tie as tie
 
-slice-aggregate-put : tie.Need-slice-aggregate-put
-slice-aggregate-put c = search needs
-
-put-requires : tie.Need-put-requires
-put-requires c κs = search needs
-
-put-lines-requires : tie.Need-put-lines-requires
-put-lines-requires c κs = search needs
-
-put-closing-requires : tie.Need-put-closing-requires
-put-closing-requires c κs = search needs
-
 returns : tie.Need-returns
 returns c =
     let at-lines = c .before .before .before in
@@ -31,4 +19,4 @@ returns c =
 pub put-report-spec : {M : Type 1} → statement M
 put-report-spec =
     tie.close
-    (tie.spec slice-aggregate-put put-requires put-lines-requires put-closing-requires returns)
+    (tie.spec (λ c. search needs) (λ c κs. search needs) (λ c κs. search needs) (λ c κs. search needs) returns)

@@ -5,21 +5,6 @@ use Rattle.listing.specs.Listing.{waitText}
 use Rattle.listing.proofs.inner.put_wait.Statement.{statement}
 use Rattle.listing.proofs.inner.put_wait.Tie as tie
 
-enum-known-wait : tie.Need-enum-known-wait
-enum-known-wait c = search needs
-
-put-decimal-requires : tie.Need-put-decimal-requires
-put-decimal-requires c κs = search needs
-
-enum-known-wait-2 : tie.Need-enum-known-wait-2
-enum-known-wait-2 c = search needs
-
-slice-aggregate-put : tie.Need-slice-aggregate-put
-slice-aggregate-put c = search needs
-
-put-requires : tie.Need-put-requires
-put-requires c κs = search needs
-
 returns : tie.Need-returns
 unfolding waitText
 returns c =
@@ -36,10 +21,10 @@ pub put-wait-spec : {M : Type 1} → statement M
 put-wait-spec =
     tie.close
     (tie.spec
-    enum-known-wait
-    put-decimal-requires
-    enum-known-wait-2
-    slice-aggregate-put
-    put-requires
+    (λ c. search needs)
+    (λ c κs. search needs)
+    (λ c. search needs)
+    (λ c. search needs)
+    (λ c κs. search needs)
     returns
     returns-2)

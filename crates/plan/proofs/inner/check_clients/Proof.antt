@@ -23,18 +23,6 @@ loop-holds : tie.Need-loop-holds Inv-loop μ-loop
 unfolding firstOf
 loop-holds c = search needs
 
-mul-client : tie.Need-mul-client Inv-loop μ-loop
-mul-client c = search needs
-
-array-copy-out-client : tie.Need-array-copy-out-client Inv-loop μ-loop
-array-copy-out-client c = search needs
-
-check-client-requires : tie.Need-check-client-requires Inv-loop μ-loop
-check-client-requires c κs = search needs
-
-enum-known-outcome : tie.Need-enum-known-outcome Inv-loop μ-loop
-enum-known-outcome c = search needs
-
 returns : tie.Need-returns Inv-loop μ-loop
 unfolding clientCheckOf
 returns c =
@@ -44,15 +32,6 @@ returns c =
     let plan = args .plan in
     first-stop (clientCheckOf plan) (plan .n) (l .i) (omega arith) (l .inv .1) (check-client .ensures)
     (c .before .outcome .given .1)
-
-enum-told : tie.Need-enum-told Inv-loop μ-loop
-enum-told c = search needs
-
-add-i : tie.Need-add-i Inv-loop μ-loop
-add-i c = search needs
-
-loop-less : tie.Need-loop-less Inv-loop μ-loop
-loop-less c = search needs
 
 loop-again : tie.Need-loop-again Inv-loop μ-loop
 unfolding clientCheckOf
@@ -76,13 +55,13 @@ check-clients-spec =
     Inv-loop
     μ-loop
     loop-holds
-    mul-client
-    array-copy-out-client
-    check-client-requires
-    enum-known-outcome
+    (λ c. search needs)
+    (λ c. search needs)
+    (λ c κs. search needs)
+    (λ c. search needs)
     returns
-    enum-told
-    add-i
-    loop-less
+    (λ c. search needs)
+    (λ c. search needs)
+    (λ c. search needs)
     loop-again
     returns-2)

@@ -7,9 +7,6 @@ use Rattle.plan.specs.Check.{ownerCheck}
 use Rattle.plan.proofs.inner.check_owner.Statement.{statement}
 use Rattle.plan.proofs.inner.check_owner.Tie as tie
 
-wide-requires : tie.Need-wide-requires
-wide-requires c κs = search needs
-
 returns : tie.Need-returns
 unfolding ownerCheck
 returns c =
@@ -23,4 +20,4 @@ returns-2 c =
     simp (le-leb (args .owner) (args .n) (omega arith))
 
 pub check-owner-spec : {M : Type 1} → statement M
-check-owner-spec = tie.close (tie.spec wide-requires returns returns-2)
+check-owner-spec = tie.close (tie.spec (λ c κs. search needs) returns returns-2)

@@ -22,15 +22,6 @@ loop-holds : tie.Need-loop-holds Inv-loop μ-loop
 unfolding firstOf
 loop-holds c = search needs
 
-array-read-owner : tie.Need-array-read-owner Inv-loop μ-loop
-array-read-owner c = search needs
-
-check-owner-requires : tie.Need-check-owner-requires Inv-loop μ-loop
-check-owner-requires c κs = search needs
-
-enum-known-outcome : tie.Need-enum-known-outcome Inv-loop μ-loop
-enum-known-outcome c = search needs
-
 returns : tie.Need-returns Inv-loop μ-loop
 unfolding ownerCheckOf ownersCheck
 returns c =
@@ -40,15 +31,6 @@ returns c =
     let plan = args .plan in
     first-stop (ownerCheckOf plan) (plan .f) (l .x) (omega arith) (l .inv .1) (check-owner .ensures)
     (c .before .outcome .given .1)
-
-enum-told : tie.Need-enum-told Inv-loop μ-loop
-enum-told c = search needs
-
-add-x : tie.Need-add-x Inv-loop μ-loop
-add-x c = search needs
-
-loop-less : tie.Need-loop-less Inv-loop μ-loop
-loop-less c = search needs
 
 loop-again : tie.Need-loop-again Inv-loop μ-loop
 unfolding ownerCheckOf
@@ -72,12 +54,12 @@ check-owners-spec =
     Inv-loop
     μ-loop
     loop-holds
-    array-read-owner
-    check-owner-requires
-    enum-known-outcome
+    (λ c. search needs)
+    (λ c κs. search needs)
+    (λ c. search needs)
     returns
-    enum-told
-    add-x
-    loop-less
+    (λ c. search needs)
+    (λ c. search needs)
+    (λ c. search needs)
     loop-again
     returns-2)

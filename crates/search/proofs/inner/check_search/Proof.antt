@@ -9,18 +9,9 @@ use Rattle.search.proofs.Questions.{too-long, too-many, size-pass}
 use Rattle.search.proofs.inner.check_search.Statement.{statement}
 use Rattle.search.proofs.inner.check_search.Tie as tie
 
-check-requirements-requires : tie.Need-check-requirements-requires
-check-requirements-requires c κs = search needs
-
-enum-known-requirements : tie.Need-enum-known-requirements
-enum-known-requirements c = search needs
-
 returns : tie.Need-returns
 unfolding searchCheck
 returns c = stops _ (c .before .before .before .check-requirements .ensures) (c .before .requirements .given .1)
-
-enum-told : tie.Need-enum-told
-enum-told c = search needs
 
 returns-2 : tie.Need-returns-2
 unfolding searchCheck
@@ -49,10 +40,10 @@ pub check-search-spec : {M : Type 1} → statement M
 check-search-spec =
     tie.close
     (tie.spec
-    check-requirements-requires
-    enum-known-requirements
+    (λ c κs. search needs)
+    (λ c. search needs)
     returns
-    enum-told
+    (λ c. search needs)
     returns-2
     returns-3
     returns-4)

@@ -28,20 +28,11 @@ abbrev μ-loop : tie.MeasureT-loop
 loop-holds : tie.Need-loop-holds Inv-loop μ-loop
 loop-holds c = (omega arith, sym (within-none _ _), padded-none _ 64 0)
 
-array-read-owner : tie.Need-array-read-owner Inv-loop μ-loop
-array-read-owner c = search needs
-
 slot-requires : tie.Need-slot-requires Inv-loop μ-loop
 slot-requires c κs =
     let args = c .before .before .before .args in
     let loop = c .before .loop in
     λ e. omega (arith, idle-before (args .plan) (loop .x) (omega arith) e, loop .inv .1)
-
-array-write-table : tie.Need-array-write-table Inv-loop μ-loop
-array-write-table c = search needs
-
-owned-by-requires : tie.Need-owned-by-requires Inv-loop μ-loop
-owned-by-requires c κs = search needs
 
 add-j : tie.Need-add-j Inv-loop μ-loop
 add-j c =
@@ -50,12 +41,6 @@ add-j c =
     let counted = count-small (plan .owners) (plan .f) 0 0 (loop .x) (omega arith) in
     let most = client-most 0 (getD (plan .owners) (loop .x) 0) in
     omega (arith, c .owned-by .ensures)
-
-add-x : tie.Need-add-x Inv-loop μ-loop
-add-x c = search needs
-
-loop-less : tie.Need-loop-less Inv-loop μ-loop
-loop-less c = search needs
 
 loop-again : tie.Need-loop-again Inv-loop μ-loop
 loop-again c =
@@ -85,12 +70,12 @@ fill-spec =
     Inv-loop
     μ-loop
     loop-holds
-    array-read-owner
+    (λ c. search needs)
     slot-requires
-    array-write-table
-    owned-by-requires
+    (λ c. search needs)
+    (λ c κs. search needs)
     add-j
-    add-x
-    loop-less
+    (λ c. search needs)
+    (λ c. search needs)
     loop-again
     returns)

@@ -7,9 +7,6 @@ use borrow.Author.Tests.{eq-eqb, ne-eqb}
 use Rattle.search.proofs.inner.last_owner.Statement.{statement}
 use Rattle.search.proofs.inner.last_owner.Tie as tie
 
-cast-result : tie.Need-cast-result
-cast-result c = search needs
-
 returns : tie.Need-returns
 returns c =
     let args = c .before .args in
@@ -23,4 +20,4 @@ returns-2 c =
     rw e (omega arith)
 
 pub last-owner-spec : {M : Type 1} → statement M
-last-owner-spec = tie.close (tie.spec cast-result returns returns-2)
+last-owner-spec = tie.close (tie.spec (λ c. search needs) returns returns-2)

@@ -9,21 +9,12 @@ use Rattle.search.proofs.Mending.{mended, not-mended}
 use Rattle.search.proofs.inner.mend.Statement.{statement}
 use Rattle.search.proofs.inner.mend.Tie as tie
 
-slots-requires : tie.Need-slots-requires
-slots-requires c κs = search needs
-
-plant-requires : tie.Need-plant-requires
-plant-requires c κs = search needs
-
 best-filling-requires : tie.Need-best-filling-requires
 best-filling-requires c κs =
     let plan = c .before .before .before .args .plan in
     let g = c .before .before .slots .result in
     let sound = planted-sound plan g (plan .n) (c .before .plant .result) (omega arith) (c .before .plant .ensures) in
     (omega arith, omega arith, sound)
-
-fill-requires : tie.Need-fill-requires
-fill-requires c κs = search needs
 
 returns : tie.Need-returns
 returns c =
@@ -53,4 +44,10 @@ returns-2 c =
 pub mend-spec : {M : Type 1} → statement M
 mend-spec =
     tie.close
-    (tie.spec slots-requires plant-requires best-filling-requires fill-requires returns returns-2)
+    (tie.spec
+    (λ c κs. search needs)
+    (λ c κs. search needs)
+    best-filling-requires
+    (λ c κs. search needs)
+    returns
+    returns-2)

@@ -15,18 +15,6 @@ rate-apart h = let z : _≡_ {A = ℕ} 0 1 = cc in absurd (omega arith)
 late-apart : {A : Type 0} → _≡_ {A = Verdict} Late Ok → A
 late-apart h = let z : _≡_ {A = ℕ} 0 1 = cc in absurd (omega arith)
 
-enum-told : tie.Need-enum-told
-enum-told c = search needs
-
-enum-told-2 : tie.Need-enum-told-2
-enum-told-2 c = search needs
-
-enum-told-3 : tie.Need-enum-told-3
-enum-told-3 c = search needs
-
-returns : tie.Need-returns
-returns c = search needs
-
 returns-2 : tie.Need-returns-2
 returns-2 c = (λ z. absurd (omega arith), λ e. rate-apart (sym (c .enum-told2 .given .1) ∙ e))
 
@@ -34,4 +22,12 @@ returns-3 : tie.Need-returns-3
 returns-3 c = (λ z. absurd (omega arith), λ e. late-apart (sym (c .enum-told3 .given .1) ∙ e))
 
 pub needed-spec : {M : Type 1} → statement M
-needed-spec = tie.close (tie.spec enum-told enum-told-2 enum-told-3 returns returns-2 returns-3)
+needed-spec =
+    tie.close
+    (tie.spec
+    (λ c. search needs)
+    (λ c. search needs)
+    (λ c. search needs)
+    (λ c. search needs)
+    returns-2
+    returns-3)

@@ -11,33 +11,15 @@ use Rattle.search.proofs.Planting.{leaves-small, leaves-shifted, leaves
 use Rattle.search.proofs.inner.number_at.Statement.{statement}
 use Rattle.search.proofs.inner.number_at.Tie as tie
 
-shl-leaves : tie.Need-shl-leaves
-shl-leaves c = search needs
-
-mul-below : tie.Need-mul-below
-mul-below c = search needs
-
-mul-below-2 : tie.Need-mul-below-2
-mul-below-2 c = search needs
-
-add-below : tie.Need-add-below
-add-below c = search needs
-
 element-copy-out-least-need : tie.Need-element-copy-out-least-need
 element-copy-out-least-need c =
     let args = c .before .args in
     omega (arith, leaves-shifted (args .g) (omega arith), leaves-small (args .g) (omega arith))
 
-add-least-need : tie.Need-add-least-need
-add-least-need c = search needs
-
 element-copy-out-least-need-2 : tie.Need-element-copy-out-least-need-2
 element-copy-out-least-need-2 c =
     let args = c .before .before .args in
     omega (arith, leaves-shifted (args .g) (omega arith), leaves-small (args .g) (omega arith))
-
-least-need-requires : tie.Need-least-need-requires
-least-need-requires c κs = search needs
 
 returns : tie.Need-returns
 returns c =
@@ -49,9 +31,6 @@ returns c =
       above = λ x> x<. c .least-need .ensures ∙ ap (λ (k : ℕ). min (getD trees below 0) (getD trees k 0 + 1)) e;
       leaf = λ low. absurd (omega (arith, leaves-shifted (args .g) (omega arith)));
     }
-
-add-if2 : tie.Need-add-if2
-add-if2 c = search needs
 
 leaf-requires : tie.Need-leaf-requires
 leaf-requires c κs =
@@ -85,16 +64,16 @@ pub number-at-spec : {M : Type 1} → statement M
 number-at-spec =
     tie.close
     (tie.spec
-    shl-leaves
-    mul-below
-    mul-below-2
-    add-below
+    (λ c. search needs)
+    (λ c. search needs)
+    (λ c. search needs)
+    (λ c. search needs)
     element-copy-out-least-need
-    add-least-need
+    (λ c. search needs)
     element-copy-out-least-need-2
-    least-need-requires
+    (λ c κs. search needs)
     returns
-    add-if2
+    (λ c. search needs)
     leaf-requires
     returns-2
     returns-3)

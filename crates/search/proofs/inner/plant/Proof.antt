@@ -15,23 +15,8 @@ Inv-loop plan g trees₀ z₀ trees z = (z ≤ plan .n * 512) × (length trees �
 abbrev μ-loop : tie.MeasureT-loop
 μ-loop plan g trees₀ z₀ trees z = z
 
-mul-z : tie.Need-mul-z Inv-loop μ-loop
-mul-z c = search needs
-
 loop-holds : tie.Need-loop-holds Inv-loop μ-loop
 loop-holds c = (omega arith, length-replicate {A = ℕ} 4096 0, record { right = λ i x i< x< z≤. absurd (omega arith) })
-
-sub-z : tie.Need-sub-z Inv-loop μ-loop
-sub-z c = search needs
-
-number-at-requires : tie.Need-number-at-requires Inv-loop μ-loop
-number-at-requires c κs = search needs
-
-array-write-trees : tie.Need-array-write-trees Inv-loop μ-loop
-array-write-trees c = search needs
-
-loop-less : tie.Need-loop-less Inv-loop μ-loop
-loop-less c = search needs
 
 loop-again : tie.Need-loop-again Inv-loop μ-loop
 loop-again c =
@@ -56,11 +41,11 @@ plant-spec =
     (tie.spec
     Inv-loop
     μ-loop
-    mul-z
+    (λ c. search needs)
     loop-holds
-    sub-z
-    number-at-requires
-    array-write-trees
-    loop-less
+    (λ c. search needs)
+    (λ c κs. search needs)
+    (λ c. search needs)
+    (λ c. search needs)
     loop-again
     returns)

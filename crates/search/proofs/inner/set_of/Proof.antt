@@ -33,18 +33,6 @@ loop-holds c =
       leads-none (args .client) (args .g) (args .node) _,
     )
 
-sub-j : tie.Need-sub-j Inv-loop μ-loop
-sub-j c = search needs
-
-last-owner-requires : tie.Need-last-owner-requires Inv-loop μ-loop
-last-owner-requires c κs = search needs
-
-array-write-owners : tie.Need-array-write-owners Inv-loop μ-loop
-array-write-owners c = search needs
-
-loop-less : tie.Need-loop-less Inv-loop μ-loop
-loop-less c = search needs
-
 loop-again : tie.Need-loop-again Inv-loop μ-loop
 loop-again c =
     let args = c .before .before .before .args in
@@ -77,9 +65,9 @@ set-of-spec =
     Inv-loop
     μ-loop
     loop-holds
-    sub-j
-    last-owner-requires
-    array-write-owners
-    loop-less
+    (λ c. search needs)
+    (λ c κs. search needs)
+    (λ c. search needs)
+    (λ c. search needs)
     loop-again
     returns)

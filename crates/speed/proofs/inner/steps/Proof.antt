@@ -30,12 +30,6 @@ serve-slot-requires-2 : tie.Need-serve-slot-requires-2 Inv-loop μ-loop
 serve-slot-requires-2 c κs =
     rw (c .before .before .next .ensures) (next-passes _ _ _ (c .before .before .before .before .loop .inv))
 
-add-i : tie.Need-add-i Inv-loop μ-loop
-add-i c = search needs
-
-loop-less : tie.Need-loop-less Inv-loop μ-loop
-loop-less c = search needs
-
 loop-again : tie.Need-loop-again Inv-loop μ-loop
 loop-again c =
     rw (c .before .before .before .next .ensures)
@@ -43,9 +37,6 @@ loop-again c =
 
 next-requires-2 : tie.Need-next-requires-2 Inv-loop μ-loop
 next-requires-2 c κs = step-fine _ _ _ (c .before .loop .inv) .below
-
-returns : tie.Need-returns Inv-loop μ-loop
-returns c = search needs
 
 pub steps-spec : {M : Type 1} → statement M
 steps-spec =
@@ -57,8 +48,8 @@ steps-spec =
     loop-holds
     next-requires
     serve-slot-requires-2
-    add-i
-    loop-less
+    (λ c. search needs)
+    (λ c. search needs)
     loop-again
     next-requires-2
-    returns)
+    (λ c. search needs))

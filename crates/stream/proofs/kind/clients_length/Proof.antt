@@ -7,9 +7,6 @@ use borrow.Author.Needs.{needs}
 use Rattle.stream.proofs.kind.clients_length.Statement.{statement}
 use Rattle.stream.proofs.kind.clients_length.Tie as tie
 
-whole-of-requires : tie.Need-whole-of-requires
-whole-of-requires c κs = search needs
-
 mul-result : tie.Need-mul-result
 mul-result c = let w : _ ≡ 10 * c .before .args .k = ap (λ (n : ℕ). n * c .before .args .k)
     (c .whole-of .ensures .0) in omega arith
@@ -18,4 +15,4 @@ returns : tie.Need-returns
 returns c = ap (λ (n : ℕ). n * c .before .args .k) (c .whole-of .ensures .0)
 
 pub clients-length-spec : {M : Type 1} → statement M
-clients-length-spec = tie.close (tie.spec whole-of-requires mul-result returns)
+clients-length-spec = tie.close (tie.spec (λ c κs. search needs) mul-result returns)

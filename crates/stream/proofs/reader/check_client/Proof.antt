@@ -11,19 +11,13 @@ use Rattle.stream.proofs.reader.check_client.Statement.{statement}
 use Rattle.stream.proofs.reader.check_client.Tie as tie
 
 check-due-requires : tie.Need-check-due-requires
-check-due-requires c κs = search needs
-
-enum-known-due : tie.Need-enum-known-due
-enum-known-due c = search needs
+check-due-requires c κs = rw (c .before .kind-at .ensures) at (c .class-for-client .ensures)
 
 returns : tie.Need-returns
 unfolding clientRead
 returns c =
     let check-due = c .before .before .before .check-due in
     stops _ (check-due .ensures) (c .before .due .given .1)
-
-enum-told : tie.Need-enum-told
-enum-told c = search needs
 
 add-check-number : tie.Need-add-check-number
 add-check-number c =
@@ -35,20 +29,11 @@ shared-slice-read-check-number c =
     let check-due = c .before .before .before .check-due in
     omega (arith, due-found _ _ clientKind (check-due .ensures) (c .before .enum-told .given .1) .room)
 
-check-number-requires : tie.Need-check-number-requires
-check-number-requires c κs = search needs
-
 client-at-requires : tie.Need-client-at-requires
 client-at-requires c κs =
     let check-due = c .before .before .before .before .check-due in
     let enum-told = c .before .before .enum-told in
     due-found _ _ clientKind (check-due .ensures) (enum-told .given .1) .room
-
-check-client-requires : tie.Need-check-client-requires
-check-client-requires c κs = search needs
-
-or-else-requires : tie.Need-or-else-requires
-or-else-requires c κs = search needs
 
 returns-2 : tie.Need-returns-2
 unfolding clientRead
@@ -64,14 +49,16 @@ pub check-client-spec : {M : Type 1} → statement M
 check-client-spec =
     tie.close
     (tie.spec
+    (λ c κs. search needs)
+    (λ c κs. search needs)
     check-due-requires
-    enum-known-due
+    (λ c. search needs)
     returns
-    enum-told
+    (λ c. search needs)
     add-check-number
     shared-slice-read-check-number
-    check-number-requires
+    (λ c κs. search needs)
     client-at-requires
-    check-client-requires
-    or-else-requires
+    (λ c κs. search needs)
+    (λ c κs. search needs)
     returns-2)

@@ -24,15 +24,6 @@ loop-holds : tie.Need-loop-holds Inv-loop μ-loop
 unfolding firstOf
 loop-holds c = search needs
 
-add-check-client : tie.Need-add-check-client Inv-loop μ-loop
-add-check-client c = search needs
-
-check-client-requires : tie.Need-check-client-requires Inv-loop μ-loop
-check-client-requires c κs = search needs
-
-enum-known-outcome : tie.Need-enum-known-outcome Inv-loop μ-loop
-enum-known-outcome c = search needs
-
 returns : tie.Need-returns Inv-loop μ-loop
 unfolding clientDue
 returns c =
@@ -44,21 +35,6 @@ returns c =
     let found = rw (l .inv .2, ← there) at (check-client .ensures) in
     first-stop (clientDue (a .s .now) (a .at)) (a .n) (l .i) (loop-test .taken) (l .inv .1) found
     (c .before .outcome .given .1)
-
-enum-told : tie.Need-enum-told Inv-loop μ-loop
-enum-told c = search needs
-
-whole-of-requires : tie.Need-whole-of-requires Inv-loop μ-loop
-whole-of-requires c κs = search needs
-
-add-to : tie.Need-add-to Inv-loop μ-loop
-add-to c = search needs
-
-add-i : tie.Need-add-i Inv-loop μ-loop
-add-i c = search needs
-
-loop-less : tie.Need-loop-less Inv-loop μ-loop
-loop-less c = search needs
 
 loop-again : tie.Need-loop-again Inv-loop μ-loop
 unfolding clientDue
@@ -84,14 +60,14 @@ check-clients-spec =
     Inv-loop
     μ-loop
     loop-holds
-    add-check-client
-    check-client-requires
-    enum-known-outcome
+    (λ c. search needs)
+    (λ c κs. search needs)
+    (λ c. search needs)
     returns
-    enum-told
-    whole-of-requires
-    add-to
-    add-i
-    loop-less
+    (λ c. search needs)
+    (λ c κs. search needs)
+    (λ c. search needs)
+    (λ c. search needs)
+    (λ c. search needs)
     loop-again
     returns-2)

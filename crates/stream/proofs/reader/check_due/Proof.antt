@@ -9,19 +9,10 @@ use Rattle.stream.proofs.reader.check_due.Tie as tie
 
 returns : tie.Need-returns
 returns c =
-    let a = c .before .before .before .before .before .args in
-    let kind-at = c .before .before .before .kind-at in
-    let class-of = c .before .before .class-of in
-    let body = c .before .body-of .ensures .0 in
-    let found = rw (body, class-of .ensures, kind-at .ensures) at (c .check-record .ensures) in
+    let start = c .before .before .before in
+    let a = start .args in
+    let found = rw (c .before .body-of .ensures .0, start .pre) at (c .check-record .ensures) in
     found ∙ due-body (a .s .now) (a .at) (a .due)
 
 pub check-due-spec : {M : Type 1} → statement M
-check-due-spec =
-    tie.close
-    (tie.spec
-    (λ c κs. search needs)
-    (λ c κs. search needs)
-    (λ c κs. search needs)
-    (λ c κs. search needs)
-    returns)
+check-due-spec = tie.close (tie.spec (λ c κs. search needs) (λ c κs. search needs) returns)

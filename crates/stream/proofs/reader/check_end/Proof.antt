@@ -9,10 +9,7 @@ use Rattle.stream.proofs.reader.check_end.Statement.{statement}
 use Rattle.stream.proofs.reader.check_end.Tie as tie
 
 check-due-requires : tie.Need-check-due-requires
-check-due-requires c κs = search needs
-
-enum-known-due : tie.Need-enum-known-due
-enum-known-due c = search needs
+check-due-requires c κs = rw (c .before .kind-at .ensures) at (c .class-for-end .ensures)
 
 returns : tie.Need-returns
 unfolding endRead
@@ -20,22 +17,10 @@ returns c =
     let check-due = c .before .before .before .check-due in
     stops _ (check-due .ensures) (c .before .due .given .1)
 
-enum-told : tie.Need-enum-told
-enum-told c = search needs
-
-whole-of-requires : tie.Need-whole-of-requires
-whole-of-requires c κs = search needs
-
-add-check-over : tie.Need-add-check-over
-add-check-over c = search needs
-
-check-over-requires : tie.Need-check-over-requires
-check-over-requires c κs = search needs
-
 returns-2 : tie.Need-returns-2
 unfolding endRead
 returns-2 c =
-    let a = c .before .before .before .before .before .before .args in
+    let a = c .before .before .before .before .before .before .before .before .args in
     let check-due = c .before .before .before .before .check-due in
     let enum-told = c .before .before .enum-told in
     let whole = due-found (a .s .now) (a .at) endKind (check-due .ensures) (enum-told .given .1) in
@@ -47,11 +32,13 @@ pub check-end-spec : {M : Type 1} → statement M
 check-end-spec =
     tie.close
     (tie.spec
+    (λ c κs. search needs)
+    (λ c κs. search needs)
     check-due-requires
-    enum-known-due
+    (λ c. search needs)
     returns
-    enum-told
-    whole-of-requires
-    add-check-over
-    check-over-requires
+    (λ c. search needs)
+    (λ c κs. search needs)
+    (λ c. search needs)
+    (λ c κs. search needs)
     returns-2)

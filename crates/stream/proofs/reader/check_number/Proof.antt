@@ -7,9 +7,6 @@ use Rattle.stream.specs.Read.{numberCheck}
 use Rattle.stream.proofs.reader.check_number.Statement.{statement}
 use Rattle.stream.proofs.reader.check_number.Tie as tie
 
-wide-requires : tie.Need-wide-requires
-wide-requires c κs = search needs
-
 returns : tie.Need-returns
 unfolding numberCheck
 returns c =
@@ -23,4 +20,4 @@ returns-2 c =
     simp (eq-eqb (args .found) (args .number) (sym (c .before .wide .ensures .0) ∙ c .if1 .left))
 
 pub check-number-spec : {M : Type 1} → statement M
-check-number-spec = tie.close (tie.spec wide-requires returns returns-2)
+check-number-spec = tie.close (tie.spec (λ c κs. search needs) returns returns-2)

@@ -12,6 +12,9 @@ use Rattle.stream.proofs.Records.{due-found, full-row}
 use Rattle.stream.proofs.reader.check_row.Statement.{statement}
 use Rattle.stream.proofs.reader.check_row.Tie as tie
 
+check-due-requires : tie.Need-check-due-requires
+check-due-requires c κs = rw (c .before .kind-at .ensures) at (c .class-for-row .ensures)
+
 returns : tie.Need-returns
 unfolding rowRead
 returns c =
@@ -26,7 +29,7 @@ check-owners-requires c κs =
 returns-2 : tie.Need-returns-2
 unfolding rowRead
 returns-2 c =
-    let a = c .before .before .before .before .before .before .args in
+    let a = c .before .before .before .before .before .before .before .before .args in
     let check-due = c .before .before .before .before .check-due in
     let enum-told = c .before .before .enum-told in
     let slots = firstOf (slotDue (a .s .now) (a .f) (a .n) (a .at) (a .j)) 8 in
@@ -41,7 +44,7 @@ check-slots-requires c κs =
 returns-3 : tie.Need-returns-3
 unfolding rowRead
 returns-3 c =
-    let a = c .before .before .before .before .before .before .args in
+    let a = c .before .before .before .before .before .before .before .before .args in
     let check-due = c .before .before .before .before .check-due in
     let enum-told = c .before .before .enum-told in
     let slots = firstOf (slotDue (a .s .now) (a .f) (a .n) (a .at) (a .j)) 8 in
@@ -52,6 +55,8 @@ check-row-spec =
     tie.close
     (tie.spec
     (λ c κs. search needs)
+    (λ c κs. search needs)
+    check-due-requires
     (λ c. search needs)
     returns
     (λ c. search needs)

@@ -21,18 +21,9 @@ Inv-loop s f n at rows to₀ j₀ to j =
 abbrev μ-loop : tie.MeasureT-loop
 μ-loop s f n at rows to₀ j₀ to j = rows - j
 
-add-rows : tie.Need-add-rows Inv-loop μ-loop
-add-rows c = search needs
-
 loop-holds : tie.Need-loop-holds Inv-loop μ-loop
 unfolding firstOf
 loop-holds c = search needs
-
-check-row-requires : tie.Need-check-row-requires Inv-loop μ-loop
-check-row-requires c κs = search needs
-
-enum-known-outcome : tie.Need-enum-known-outcome Inv-loop μ-loop
-enum-known-outcome c = search needs
 
 returns : tie.Need-returns Inv-loop μ-loop
 unfolding rowDue
@@ -45,21 +36,6 @@ returns c =
     let found = rw (l .inv .2, ← there) at (check-row .ensures) in
     let g = rowDue (a .s .now) (a .f) (a .n) (a .at) in
     first-stop g (rowsOf (a .f)) (l .j) (loop-test .taken) (l .inv .1) found (c .before .outcome .given .1)
-
-enum-told : tie.Need-enum-told Inv-loop μ-loop
-enum-told c = search needs
-
-whole-of-requires : tie.Need-whole-of-requires Inv-loop μ-loop
-whole-of-requires c κs = search needs
-
-add-to : tie.Need-add-to Inv-loop μ-loop
-add-to c = search needs
-
-add-j : tie.Need-add-j Inv-loop μ-loop
-add-j c = search needs
-
-loop-less : tie.Need-loop-less Inv-loop μ-loop
-loop-less c = search needs
 
 loop-again : tie.Need-loop-again Inv-loop μ-loop
 unfolding rowDue
@@ -85,15 +61,15 @@ check-rows-spec =
     (tie.spec
     Inv-loop
     μ-loop
-    add-rows
+    (λ c. search needs)
     loop-holds
-    check-row-requires
-    enum-known-outcome
+    (λ c κs. search needs)
+    (λ c. search needs)
     returns
-    enum-told
-    whole-of-requires
-    add-to
-    add-j
-    loop-less
+    (λ c. search needs)
+    (λ c κs. search needs)
+    (λ c. search needs)
+    (λ c. search needs)
+    (λ c. search needs)
     loop-again
     returns-2)

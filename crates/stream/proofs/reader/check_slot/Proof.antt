@@ -7,9 +7,6 @@ use Rattle.stream.specs.Read.{slotCheck}
 use Rattle.stream.proofs.reader.check_slot.Statement.{statement}
 use Rattle.stream.proofs.reader.check_slot.Tie as tie
 
-check-owner-requires : tie.Need-check-owner-requires
-check-owner-requires c κs = search needs
-
 returns : tie.Need-returns
 unfolding slotCheck
 returns c = rw (lt-ltb _ _ (c .before .if1 .taken)) (c .check-owner .ensures)
@@ -23,4 +20,4 @@ unfolding slotCheck
 returns-3 c = search tests
 
 pub check-slot-spec : {M : Type 1} → statement M
-check-slot-spec = tie.close (tie.spec check-owner-requires returns returns-2 returns-3)
+check-slot-spec = tie.close (tie.spec (λ c κs. search needs) returns returns-2 returns-3)

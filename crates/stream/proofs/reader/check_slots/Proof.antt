@@ -21,27 +21,6 @@ loop-holds : tie.Need-loop-holds Inv-loop μ-loop
 unfolding firstOf
 loop-holds c = search needs
 
-add-byte : tie.Need-add-byte Inv-loop μ-loop
-add-byte c = search needs
-
-add-byte-2 : tie.Need-add-byte-2 Inv-loop μ-loop
-add-byte-2 c = search needs
-
-shared-slice-read-byte : tie.Need-shared-slice-read-byte Inv-loop μ-loop
-shared-slice-read-byte c = search needs
-
-mul-check-slot : tie.Need-mul-check-slot Inv-loop μ-loop
-mul-check-slot c = search needs
-
-add-check-slot : tie.Need-add-check-slot Inv-loop μ-loop
-add-check-slot c = search needs
-
-check-slot-requires : tie.Need-check-slot-requires Inv-loop μ-loop
-check-slot-requires c κs = search needs
-
-enum-known-outcome : tie.Need-enum-known-outcome Inv-loop μ-loop
-enum-known-outcome c = search needs
-
 returns : tie.Need-returns Inv-loop μ-loop
 unfolding slotDue
 returns c =
@@ -51,15 +30,6 @@ returns c =
     let l = c .before .before .before .before .before .before .loop in
     let g = slotDue (a .s .now) (a .f) (a .n) (a .at) (a .j) in
     first-stop g 8 (l .t) (loop-test .taken) (l .inv .1) (check-slot .ensures) (c .before .outcome .given .1)
-
-enum-told : tie.Need-enum-told Inv-loop μ-loop
-enum-told c = search needs
-
-add-t : tie.Need-add-t Inv-loop μ-loop
-add-t c = search needs
-
-loop-less : tie.Need-loop-less Inv-loop μ-loop
-loop-less c = search needs
 
 loop-again : tie.Need-loop-again Inv-loop μ-loop
 unfolding slotDue
@@ -80,16 +50,16 @@ check-slots-spec =
     Inv-loop
     μ-loop
     loop-holds
-    add-byte
-    add-byte-2
-    shared-slice-read-byte
-    mul-check-slot
-    add-check-slot
-    check-slot-requires
-    enum-known-outcome
+    (λ c. search needs)
+    (λ c. search needs)
+    (λ c. search needs)
+    (λ c. search needs)
+    (λ c. search needs)
+    (λ c κs. search needs)
+    (λ c. search needs)
     returns
-    enum-told
-    add-t
-    loop-less
+    (λ c. search needs)
+    (λ c. search needs)
+    (λ c. search needs)
     loop-again
     returns-2)

@@ -14,9 +14,6 @@ returns c =
     let check-head = c .before .before .before .check-head in
     stops _ (check-head .ensures) (c .before .head .given .1)
 
-enum-told : tie.Need-enum-told
-enum-told c = search needs
-
 shared-slice-read-wide : tie.Need-shared-slice-read-wide
 shared-slice-read-wide c =
     let check-head = c .before .before .before .check-head in
@@ -51,7 +48,7 @@ check-stream-spec =
     (λ c κs. search needs)
     (λ c. search needs)
     returns
-    enum-told
+    (λ c. search needs)
     shared-slice-read-wide
     (λ c κs. search needs)
     shared-slice-read-wide-2

@@ -24,41 +24,23 @@ abbrev μ-loop : tie.MeasureT-loop
 
 loop-holds : tie.Need-loop-holds Inv-loop μ-loop
 loop-holds c =
-    let a = c .before .args in
-    (omega arith, padded-none (clientIn (a .s .now) (a .at)) 8 noClient, omega arith)
+    let a = c .before .before .args in
+    (omega arith, rw (c .no-client .ensures) (padded-none (clientIn (a .s .now) (a .at)) 8 noClient), omega arith)
 
 client-at-requires : tie.Need-client-at-requires Inv-loop μ-loop
 client-at-requires c κs =
-    let pre = c .before .before .before .pre in
-    let a = c .before .before .before .args in
+    let pre = c .before .before .before .before .pre in
+    let a = c .before .before .before .before .args in
     let l = c .before .loop in
     let client = clients-fine (a .s .now) (a .at) (a .n) (pre .2) (l .i) (c .loop-test .taken) in
     let there = place-clients (a .s .now) (a .at) (a .n) (pre .2) (l .i) (omega arith) in
     rw (l .inv .2, ← there) (client .whole .room)
 
-mul-clients : tie.Need-mul-clients Inv-loop μ-loop
-mul-clients c = search needs
-
-array-set-from-clients : tie.Need-array-set-from-clients Inv-loop μ-loop
-array-set-from-clients c = search needs
-
-whole-of-requires : tie.Need-whole-of-requires Inv-loop μ-loop
-whole-of-requires c κs = search needs
-
-add-to : tie.Need-add-to Inv-loop μ-loop
-add-to c = search needs
-
-add-i : tie.Need-add-i Inv-loop μ-loop
-add-i c = search needs
-
-loop-less : tie.Need-loop-less Inv-loop μ-loop
-loop-less c = search needs
-
 loop-again : tie.Need-loop-again Inv-loop μ-loop
 unfolding clientIn
 loop-again c =
-    let pre = c .before .before .before .before .before .pre in
-    let a = c .before .before .before .before .before .args in
+    let pre = c .before .before .before .before .before .before .pre in
+    let a = c .before .before .before .before .before .before .args in
     let l = c .before .before .before .loop in
     let there = place-clients (a .s .now) (a .at) (a .n) (pre .2) (l .i) (omega arith) in
     let client = rw (l .inv .2, ← there) at (c .before .client-at .ensures) in
@@ -68,7 +50,7 @@ loop-again c =
 
 returns : tie.Need-returns Inv-loop μ-loop
 returns c =
-    let args = c .before .before .before .args in
+    let args = c .before .before .before .before .args in
     let e : c .before .loop .i ≡ args .n = omega arith in rw e at (c .before .loop .inv .1)
 
 pub clients-in-spec : {M : Type 1} → statement M
@@ -77,13 +59,14 @@ clients-in-spec =
     (tie.spec
     Inv-loop
     μ-loop
+    (λ c κs. search needs)
     loop-holds
     client-at-requires
-    mul-clients
-    array-set-from-clients
-    whole-of-requires
-    add-to
-    add-i
-    loop-less
+    (λ c. search needs)
+    (λ c. search needs)
+    (λ c κs. search needs)
+    (λ c. search needs)
+    (λ c. search needs)
+    (λ c. search needs)
     loop-again
     returns)

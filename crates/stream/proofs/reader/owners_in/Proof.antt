@@ -41,12 +41,6 @@ put-owners-requires c κs =
     let room = row-room s (a .f) (a .n) (a .at) (l .j) 8 (pre .2) (omega arith) (omega arith) in
     ((omega arith, omega arith, omega arith, there), (room, l .inv .1))
 
-add-j : tie.Need-add-j Inv-loop μ-loop
-add-j c = search needs
-
-loop-less : tie.Need-loop-less Inv-loop μ-loop
-loop-less c = search needs
-
 loop-again : tie.Need-loop-again Inv-loop μ-loop
 loop-again c =
     let l = c .before .before .before .loop in
@@ -77,8 +71,8 @@ owners-in-spec =
     μ-loop
     loop-holds
     put-owners-requires
-    add-j
-    loop-less
+    (λ c. search needs)
+    (λ c. search needs)
     loop-again
     put-owners-requires-2
     returns)

@@ -17,22 +17,10 @@ Inv-loop owners₀ s at j k row t₀ owners t = (t ≤ k) × (owners ≡ padded 
 abbrev μ-loop : tie.MeasureT-loop
 μ-loop owners₀ s at j k row t₀ owners t = k - t
 
-rows-length-requires : tie.Need-rows-length-requires Inv-loop μ-loop
-rows-length-requires c κs = search needs
-
-add-row : tie.Need-add-row Inv-loop μ-loop
-add-row c = search needs
-
 loop-holds : tie.Need-loop-holds Inv-loop μ-loop
 loop-holds c =
     let a = c .before .before .args in
     let e : 8 * a .j + 0 ≡ 8 * a .j = omega arith in (omega arith, rw e (c .before .before .pre .1 .1))
-
-add-owners : tie.Need-add-owners Inv-loop μ-loop
-add-owners c = search needs
-
-add-owners-2 : tie.Need-add-owners-2 Inv-loop μ-loop
-add-owners-2 c = search needs
 
 shared-slice-read-owners : tie.Need-shared-slice-read-owners Inv-loop μ-loop
 shared-slice-read-owners c =
@@ -40,21 +28,6 @@ shared-slice-read-owners c =
     let rows-length = c .before .before .before .rows-length in
     let l = c .before .before .loop in
     omega (arith, pre .0, pre .1 .0 (l .t) (omega arith), rows-length .ensures)
-
-mul-owners : tie.Need-mul-owners Inv-loop μ-loop
-mul-owners c = search needs
-
-add-owners-3 : tie.Need-add-owners-3 Inv-loop μ-loop
-add-owners-3 c = search needs
-
-element-write-owners : tie.Need-element-write-owners Inv-loop μ-loop
-element-write-owners c = search needs
-
-add-t : tie.Need-add-t Inv-loop μ-loop
-add-t c = search needs
-
-loop-less : tie.Need-loop-less Inv-loop μ-loop
-loop-less c = search needs
 
 loop-again : tie.Need-loop-again Inv-loop μ-loop
 unfolding ownerIn
@@ -81,16 +54,16 @@ put-owners-spec =
     (tie.spec
     Inv-loop
     μ-loop
-    rows-length-requires
-    add-row
+    (λ c κs. search needs)
+    (λ c. search needs)
     loop-holds
-    add-owners
-    add-owners-2
+    (λ c. search needs)
+    (λ c. search needs)
     shared-slice-read-owners
-    mul-owners
-    add-owners-3
-    element-write-owners
-    add-t
-    loop-less
+    (λ c. search needs)
+    (λ c. search needs)
+    (λ c. search needs)
+    (λ c. search needs)
+    (λ c. search needs)
     loop-again
     returns)

@@ -28,18 +28,6 @@ loop-holds : tie.Need-loop-holds Inv-loop μ-loop
 unfolding many
 loop-holds c = (omega arith, none (c .before .args .out .now) (c .before .args .at), λ k h. absurd (omega arith))
 
-mul-client : tie.Need-mul-client Inv-loop μ-loop
-mul-client c = search needs
-
-element-copy-out-client : tie.Need-element-copy-out-client Inv-loop μ-loop
-element-copy-out-client c = search needs
-
-add-put-client : tie.Need-add-put-client Inv-loop μ-loop
-add-put-client c = search needs
-
-cast-put-client : tie.Need-cast-put-client Inv-loop μ-loop
-cast-put-client c = search needs
-
 put-client-requires : tie.Need-put-client-requires Inv-loop μ-loop
 unfolding clientRecord
 put-client-requires c κs =
@@ -49,12 +37,6 @@ put-client-requires c κs =
     let plan = args .t3 in
     let w = within-many (clientRecord plan) (plan .n) (l .i) (loop-test .taken) in
     omega (arith, l .inv .1 .place, put-length (l .inv .1), length-client (l .i + 1) (clientOf plan (l .i)))
-
-add-i : tie.Need-add-i Inv-loop μ-loop
-add-i c = search needs
-
-loop-less : tie.Need-loop-less Inv-loop μ-loop
-loop-less c = search needs
 
 loop-again : tie.Need-loop-again Inv-loop μ-loop
 unfolding clientRecord
@@ -83,13 +65,13 @@ put-clients-spec =
     Inv-loop
     μ-loop
     loop-holds
-    mul-client
-    element-copy-out-client
-    add-put-client
-    cast-put-client
+    (λ c. search needs)
+    (λ c. search needs)
+    (λ c. search needs)
+    (λ c. search needs)
     put-client-requires
-    add-i
-    loop-less
+    (λ c. search needs)
+    (λ c. search needs)
     loop-again
     same-length
     returns)

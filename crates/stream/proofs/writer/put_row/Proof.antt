@@ -6,15 +6,6 @@ use Rattle.stream.specs.Write.{rowRecord}
 use Rattle.stream.proofs.writer.put_row.Statement.{statement}
 use Rattle.stream.proofs.writer.put_row.Tie as tie
 
-put-byte-requires : tie.Need-put-byte-requires
-put-byte-requires c κs = search needs
-
-put-slots-requires : tie.Need-put-slots-requires
-put-slots-requires c κs = search needs
-
-same-length : tie.Need-same-length
-same-length c = search needs
-
 returns : tie.Need-returns
 unfolding rowRecord
 returns c =
@@ -23,4 +14,4 @@ returns c =
     then (put-byte .ensures) (put-slots .ensures)
 
 pub put-row-spec : {M : Type 1} → statement M
-put-row-spec = tie.close (tie.spec put-byte-requires put-slots-requires same-length returns)
+put-row-spec = tie.close (tie.spec (λ c κs. search needs) (λ c κs. search needs) (λ c. search needs) returns)

@@ -20,9 +20,6 @@ Inv-loop out₀ at plan rows to₀ j₀ out to j = (j ≤ rows) × Put out₀ at
 abbrev μ-loop : tie.MeasureT-loop
 μ-loop out₀ at plan rows to₀ j₀ out to j = rows - j
 
-add-rows : tie.Need-add-rows Inv-loop μ-loop
-add-rows c = search needs
-
 loop-holds : tie.Need-loop-holds Inv-loop μ-loop
 unfolding many
 loop-holds c =
@@ -36,12 +33,6 @@ put-row-requires c κs =
     let plan = args .plan in
     let w = within-many (rowRecord plan) (rowsOf (plan .f)) (l .j) (c .before .loop-test .taken) in
     (search needs, omega arith, omega (arith, l .inv .1 .place, put-length (l .inv .1), length-row plan (l .j)))
-
-add-j : tie.Need-add-j Inv-loop μ-loop
-add-j c = search needs
-
-loop-less : tie.Need-loop-less Inv-loop μ-loop
-loop-less c = search needs
 
 loop-again : tie.Need-loop-again Inv-loop μ-loop
 loop-again c =
@@ -64,11 +55,11 @@ put-rows-spec =
     (tie.spec
     Inv-loop
     μ-loop
-    add-rows
+    (λ c. search needs)
     loop-holds
     put-row-requires
-    add-j
-    loop-less
+    (λ c. search needs)
+    (λ c. search needs)
     loop-again
     same-length
     returns)

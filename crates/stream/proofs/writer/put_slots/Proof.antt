@@ -32,30 +32,12 @@ loop-holds c =
     let args = c .before .before .args in
     (omega arith, none (args .out .now) (args .at))
 
-mul-x : tie.Need-mul-x Inv-loop μ-loop
-mul-x c = search needs
-
-add-x : tie.Need-add-x Inv-loop μ-loop
-add-x c = search needs
-
-array-read-slot-byte : tie.Need-array-read-slot-byte Inv-loop μ-loop
-array-read-slot-byte c = search needs
-
-slot-byte-requires : tie.Need-slot-byte-requires Inv-loop μ-loop
-slot-byte-requires c κs = search needs
-
 put-byte-requires : tie.Need-put-byte-requires Inv-loop μ-loop
 put-byte-requires c κs =
     let args = c .before .before .before .before .before .before .args in
     let l = c .before .before .before .loop in
     let n = length-firsts (byte (args .plan .f) (args .plan .owners) (args .j)) (l .t) in
     omega (arith, l .inv .1 .place, put-length (l .inv .1))
-
-add-t : tie.Need-add-t Inv-loop μ-loop
-add-t c = search needs
-
-loop-less : tie.Need-loop-less Inv-loop μ-loop
-loop-less c = search needs
 
 loop-again : tie.Need-loop-again Inv-loop μ-loop
 loop-again c =
@@ -80,13 +62,13 @@ put-slots-spec =
     Inv-loop
     μ-loop
     loop-holds
-    mul-x
-    add-x
-    array-read-slot-byte
-    slot-byte-requires
+    (λ c. search needs)
+    (λ c. search needs)
+    (λ c. search needs)
+    (λ c κs. search needs)
     put-byte-requires
-    add-t
-    loop-less
+    (λ c. search needs)
+    (λ c. search needs)
     loop-again
     same-length
     returns)

@@ -41,9 +41,6 @@ put-byte-requires c κs =
     let length = length-parts (at-args .args .plan) in
     omega (arith, head .place, clients .place, rows .place, put-length head, put-length clients, put-length rows)
 
-same-length : tie.Need-same-length
-same-length c = search needs
-
 returns : tie.Need-returns
 unfolding streamOf
 returns c =
@@ -63,5 +60,5 @@ put-stream-spec =
     put-clients-requires
     put-rows-requires
     put-byte-requires
-    same-length
+    (λ c. search needs)
     returns)

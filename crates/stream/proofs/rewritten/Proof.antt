@@ -1,30 +1,15 @@
--- `promises::rewritten` meets its contract: the read's refusal, or what the write gives of the plan read.
+-- `stream::rewritten` meets its contract: the read's refusal, or what the write gives of the plan read.
 -- Assumes nothing.
 use borrow.Author.Needs.{needs}
-use Rattle.promises.proofs.Trips.{copy-refused, copied}
-use Rattle.promises.proofs.rewritten.Statement.{statement}
-use Rattle.promises.proofs.rewritten.Tie as tie
-
-read-requires : tie.Need-read-requires
-read-requires c κs = search needs
-
-enum-known-outcome : tie.Need-enum-known-outcome
-enum-known-outcome c = search needs
+use Rattle.stream.proofs.Trips.{copy-refused, copied}
+use Rattle.stream.proofs.rewritten.Statement.{statement}
+use Rattle.stream.proofs.rewritten.Tie as tie
 
 returns : tie.Need-returns
 returns c =
     let args = c .before .before .before .before .before .before .before .args in
     let read = c .before .before .before .before .read in
     copy-refused (args .s .now) (args .out .now) (read .result) _ _ (read .ensures .0) (c .before .outcome .given .1)
-
-enum-told : tie.Need-enum-told
-enum-told c = search needs
-
-write-requires : tie.Need-write-requires
-write-requires c κs = search needs
-
-same-length : tie.Need-same-length
-same-length c = search needs
 
 returns-2 : tie.Need-returns-2
 returns-2 c =
@@ -40,10 +25,10 @@ pub rewritten-spec : {M : Type 1} → statement M
 rewritten-spec =
     tie.close
     (tie.spec
-    read-requires
-    enum-known-outcome
+    (λ c κs. search needs)
+    (λ c. search needs)
     returns
-    enum-told
-    write-requires
-    same-length
+    (λ c. search needs)
+    (λ c κs. search needs)
+    (λ c. search needs)
     returns-2)

@@ -1,5 +1,5 @@
 -- What the two round trips give as calls, from the contracts of `stream::read` and `stream::write` and three laws: a
--- plan that is read passes its checks, no stream is longer than 156 bytes, and a plan's refusal has no offset.
+-- plan that is read passes its checks, no stream is longer than `longest`, and a plan's refusal has no offset.
 -- Assumes nothing.
 use mathlib.Core.Path.{_≡_, refl, ap, sym, _∙_}
 use mathlib.Core.Bool.{Bool}
@@ -18,15 +18,14 @@ use Rattle.plan.specs.declared.Plan.{Plan}
 use Rattle.plan.specs.Plan.{noPlan}
 use Rattle.plan.specs.Check.{planCheck}
 use Rattle.plan.proofs.Refusals.{plan-unread}
 use Rattle.stream.specs.Read.{readOf}
-use Rattle.stream.specs.Trip.{Rewritten, Reread}
-use Rattle.stream.specs.Write.{streamOf, writeCheck, writtenBy, writtenOf, bytesBy, bytesOf, Wrote}
+use Rattle.stream.specs.Trip.{Rewritten, Reread, copyCheck, Copied, rereadOf}
+use Rattle.stream.specs.Write.{streamOf, longest, writeCheck, writtenBy, writtenOf, bytesBy, bytesOf, Wrote}
 use Rattle.stream.specs.declared.Reading.{Reading}
 use Rattle.stream.specs.declared.Written.{Written}
 use Rattle.stream.specs.declared.Written.the-variants as written
 use Rattle.stream.proofs.Lengths.{stream-sizes}
 use Rattle.stream.proofs.Answers.{reading-found, reading-checked}
-use Rattle.promises.specs.Trip.{copyCheck, Copied, rereadOf}
 
 -- ---- read, then written: a is what the read gave
 
@@ -45,6 +44,11 @@ copied s out a r now e back h w =
     let ok = reading-checked s a e h in
     let t : streamOf (a .plan) ≡ s = back h in
     record { answer = w .answer ∙ rw (ok, t, q); bytes = w .bytes ∙ rw (ok, t, q) }
+
+-- there is one such answer, and one such output after
+pub copied-once : (s out : List ℕ) (r r′ : Written) (now now′ : List ℕ) → Copied s out r now → Copied s out r′ now′
+    → (r ≡ r′) × (now ≡ now′)
+copied-once s out r r′ now now′ h h′ = (h .answer ∙ sym (h′ .answer), h .bytes ∙ sym (h′ .bytes))
 
 -- ---- written, then read: r is what the write gave, now the bytes after
 
@@ -86,13 +90,13 @@ pub reread-given : (plan : Plan) (r : Written) (now : List ℕ) (size : ℕ) (a 
 unfolding rereadOf
 reread-given plan r now size a ok back e h = h ∙ back size e ∙ rw ok
 
--- a write into 156 bytes is refused for the plan's own fault, which has no offset
+-- a write into as many bytes as the longest stream has is refused for the plan's own fault, which has no offset
 refused-by : (plan : Plan) (k : ℕ) (o : Outcome) → planCheck plan ≡ o
-    → writtenBy (orElse o (need (leb (length (streamOf plan)) 156) refusal.room 0)) (length (streamOf plan))
+    → writtenBy (orElse o (need (leb (length (streamOf plan)) longest) refusal.room 0)) (length (streamOf plan))
     ≡ written.Refused k → record { outcome = outcome.Refused k 0; plan = noPlan } ≡ rereadOf plan
 unfolding rereadOf
 refused-by plan k outcome.Fine h e =
-    let fits = le-leb (length (streamOf plan)) 156 (stream-sizes plan h .1) in
+    let fits = le-leb (length (streamOf plan)) longest (stream-sizes plan h .1) in
     let g : written.Bytes (length (streamOf plan)) ≡ written.Refused k = rw fits at e in
     let z : _≡_ {A = ℕ} 0 1 = cc in
     absurd (omega arith)
@@ -101,7 +105,7 @@ refused-by plan k (outcome.Refused j offset) h e =
     let unread : offset ≡ 0 = rw h at (plan-unread plan) in
     rw (h, number, unread)
 
-pub reread-refused : (plan : Plan) (out : List ℕ) (r : Written) (now : List ℕ) (k : ℕ) → length out ≡ 156
+pub reread-refused : (plan : Plan) (out : List ℕ) (r : Written) (now : List ℕ) (k : ℕ) → length out ≡ longest
     → Wrote plan out r now → r ≡ written.Refused k
     → record { outcome = outcome.Refused k 0; plan = noPlan } ≡ rereadOf plan
 unfolding writtenOf writeCheck

@@ -1,0 +1,40 @@
+-- `figures::inner::figures_of` meets its contract: the checks before have passed, so 14 decides where it refuses, else
+-- the figure is given.
+-- Assumes nothing.
+use mathlib.Core.Path.{sym}
+use native.Mathlib.Omega.{arith}
+use Rattle.records.specs.Refusal as refusal
+use Rattle.plan.proofs.Laws.{asked-fine}
+use Rattle.figures.specs.Check.{figureCheck}
+use Rattle.figures.proofs.Questions.{owns-none, owns-some}
+use Rattle.figures.proofs.Answers.{figures-refused, figures-given}
+use Rattle.figures.proofs.inner.figures_of.Statement.{statement}
+use Rattle.figures.proofs.inner.figures_of.Tie as tie
+
+slots-requires : tie.Need-slots-requires
+slots-requires c κs = asked-fine (c .args .plan) (c .args .client) (c .pre) .0 .bounds .f-high
+
+returns : tie.Need-returns
+unfolding figureCheck
+returns c =
+    let start = c .before .before in
+    let args = start .args in
+    let none = owns-none (args .plan) (args .client) (omega (arith, c .before .slots .ensures)) in
+    figures-refused (args .plan) (args .client) refusal.noSlot 0 (rw (start .pre) (sym none))
+
+figure-requires : tie.Need-figure-requires
+figure-requires c κs =
+    let start = c .before .before in
+    let bounds = asked-fine (start .args .plan) (start .args .client) (start .pre) .0 .bounds in
+    (bounds .f-low, bounds .f-high, c .before .slots .ensures)
+
+returns-2 : tie.Need-returns-2
+unfolding figureCheck
+returns-2 c =
+    let start = c .before .before .before in
+    let args = start .args in
+    let some = owns-some (args .plan) (args .client) (omega (arith, c .before .before .slots .ensures)) in
+    figures-given (args .plan) (args .client) _ (rw (start .pre) some) (c .figure .ensures)
+
+pub figures-of-spec : {M : Type 1} → statement M
+figures-of-spec = tie.close (tie.spec slots-requires returns figure-requires returns-2)
