@@ -16,7 +16,9 @@
  *      8  p is 0, q is 0 or p > q                                      17  the arbiter's position is not below f
  *      9  b is 0                                                       18  the arrivals list does not have n entries
  *
- * After a refusal every lent number is 0, a lent output is untouched, and an arbiter's record is unchanged.
+ * After a refusal every lent number is 0, but for the offset of gwelathur_read, which says where; a lent output is
+ * untouched, and an arbiter's record is unchanged. 0 may be an answer, too, a verdict's 0 is GWELATHUR_OK: what a call
+ * returns is to be looked at first.
  *
  * What a caller must see to: no pointer is null, not even one whose size is 0; the memory behind a pointer is as long
  * as the number after it (size, room, count) or its array says; and what is lent to be written to overlaps nothing else
@@ -74,14 +76,14 @@ size_t gwelathur_default_wait(const uint8_t *plan, size_t size, size_t client, s
 /*
  * Judges a plan. Refuses 1 to 11. *client: 0 where the plan is accepted, else the first client that is not ok;
  * *verdict: its verdict, GWELATHUR_OK where the plan is accepted; *start, *length: if it is late, the first stretch of
- * slots that shows it, else 0 and 0.
+ * slots that shows it, else 0 and 0. Warning: in a refusal all four are 0, as they are where the plan is accepted.
  */
 size_t gwelathur_judge(const uint8_t *plan, size_t size, size_t *client, size_t *verdict, size_t *start,
                        size_t *length);
 
 /*
  * A client's verdict. Refuses 1 to 11, 13. *verdict: GWELATHUR_OK, GWELATHUR_RATE or GWELATHUR_LATE; a client without
- * slots lacks rate.
+ * slots lacks rate. Warning: in a refusal it is 0, which is GWELATHUR_OK.
  */
 size_t gwelathur_verdict(const uint8_t *plan, size_t size, size_t client, size_t *verdict);
 
@@ -109,8 +111,8 @@ size_t gwelathur_step(const uint8_t *plan, size_t size, uint8_t record[GWELATHUR
                       const uint8_t *arrivals, size_t count, uint8_t answer[GWELATHUR_BYTES(GWELATHUR_RECORD)]);
 
 /*
- * The report of a plan as text, a refused read its one line. Returns the text's length: the text is the first bytes of
- * the page, all past it as before; no zero byte ends it.
+ * The report of a plan as text, a refused read its one line. Returns the text's length, which is within the page: the
+ * text is the first bytes of the page, all past it as before; no zero byte ends it.
  */
 size_t gwelathur_report(const uint8_t *plan, size_t size, uint8_t page[GWELATHUR_BYTES(GWELATHUR_PAGE)]);
 
