@@ -30,9 +30,9 @@ use Rattle.stream.proofs.Answers.{read-rewritten, reading-checked}
 use Rattle.figures.specs.declared.Figure.{Figure}
 use Rattle.figures.specs.declared.Figures.the-variants as figures
 use Rattle.figures.specs.declared.Wait.the-variants as wait
-use Rattle.figures.specs.Figures.{IsFigures, IsWaitFor}
+use Rattle.figures.specs.Figures.{IsFigure, IsFigures, IsWaitFor}
 use Rattle.figures.proofs.Laws.{frame-of}
-use Rattle.figures.proofs.Questions.{figure-fine, wait-fine}
+use Rattle.figures.proofs.Questions.{Asked, figure-fine, wait-fine}
 use Rattle.figures.proofs.Answers.{given-fine, given-frame, given-scaled, given-owns, wait-given-fine, given-waits}
 use Rattle.arbiter.specs.Run.{SatisfiesEmptyOf, IsLatencyOf}
 use Rattle.arbiter.proofs.Latency.{least-empty-runs, latency-runs}
@@ -82,29 +82,29 @@ sized plan h =
 
 -- ---- figures
 
--- "The latency given for a drive that owns a slot is exactly the least one that satisfies Definition 1 .. at its
--- allocated rate": it is L/m, and the rate m/f, on the arbiter's own runs
-pub latency : (plan : Plan) (i : ℕ) (figure : Figure) → IsFigures plan (i + 1) (figures.Given figure)
-    → IsLatencyOf plan i (figure .scaled) (figure .slots)
-latency plan i figure is =
-    let fine = given-fine plan (i + 1) figure is in
-    let ok = figure-fine plan (i + 1) fine in
-    let right = is .figure fine in
-    let frame = frame-of plan (i + 1) (ok .checked .bounds .f-low) in
-    let i< : i < plan .n = omega (arith, ok .high) in
-    rw (right .slots)
-    (latency-runs plan i i< (plan-pass plan (ok .checked)) frame (right .scaled) (ok .owns))
+module _ (plan : Plan) (i : ℕ) (figure : Figure) (is : IsFigures plan (i + 1) (figures.Given figure)) where
+  asked : Asked plan (i + 1)
+  asked = figure-fine plan (i + 1) (given-fine plan (i + 1) figure is)
 
--- no smaller one satisfies it even in the busy periods that start with an empty queue
-pub latency-empty : (plan : Plan) (i : ℕ) (figure : Figure) → IsFigures plan (i + 1) (figures.Given figure) → (x y : ℕ)
-    → SatisfiesEmptyOf plan i x y → figure .scaled * y ≤ x * figure .slots
-latency-empty plan i figure is x y sat =
-    let fine = given-fine plan (i + 1) figure is in
-    let ok = figure-fine plan (i + 1) fine in
-    let i< : i < plan .n = omega (arith, ok .high) in
-    rw (is .figure fine .slots)
-    (least-empty-runs plan i i< (plan-pass plan (ok .checked)) (frame-of plan (i + 1) (ok .checked .bounds .f-low))
-    (is .figure fine .scaled) x y sat)
+  right : IsFigure (ownOf plan (i + 1)) (plan .f) figure
+  right = is .figure (given-fine plan (i + 1) figure is)
+
+  -- "The latency given for a drive that owns a slot is exactly the least one that satisfies Definition 1 .. at its
+  -- allocated rate": it is L/m, and the rate m/f, on the arbiter's own runs
+  pub latency : IsLatencyOf plan i (figure .scaled) (figure .slots)
+  latency =
+      let i< : i < plan .n = omega (arith, asked .high) in
+      let frame = frame-of plan (i + 1) (asked .checked .bounds .f-low) in
+      rw (right .slots)
+      (latency-runs plan i i< (plan-pass plan (asked .checked)) frame (right .scaled) (asked .owns))
+
+  -- no smaller one satisfies it even in the busy periods that start with an empty queue
+  pub latency-empty : (x y : ℕ) → SatisfiesEmptyOf plan i x y → figure .scaled * y ≤ x * figure .slots
+  latency-empty x y sat =
+      let i< : i < plan .n = omega (arith, asked .high) in
+      let frame = frame-of plan (i + 1) (asked .checked .bounds .f-low) in
+      rw (right .slots)
+      (least-empty-runs plan i i< (plan-pass plan (asked .checked)) frame (right .scaled) x y sat)
 
 module _ (plan : Plan) (c : ℕ) (figure : Figure) (is : IsFigures plan c (figures.Given figure)) where
   f-high : plan .f ≤ 64

@@ -1,5 +1,5 @@
--- What the two round trips give as calls, from the contracts of `stream::read` and `stream::write` and three laws: a
--- plan that is read passes its checks, no stream is longer than `longest`, and a plan's refusal has no offset.
+-- What the two round trips give as calls, from the contracts of `read` and `write` and three laws: a plan that is read
+-- passes its checks, no stream is longer than `longest`, and a plan's refusal has no offset.
 -- Assumes nothing.
 use mathlib.Core.Path.{_≡_, refl, ap, sym, _∙_}
 use mathlib.Core.Bool.{Bool}
