@@ -7,3 +7,4 @@ pub mod Laws
 pub mod Latency
 pub mod Same
 pub mod Values
+pub mod Walk
