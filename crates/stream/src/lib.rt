@@ -74,8 +74,8 @@ pub fn rewritten(s: &[u8], out: &mut [u8]) -> Written
     let reading = read(s);
     let outcome = reading.outcome;
     let plan = reading.plan;
-    if let Outcome::Refused(number, _) = outcome {
-        return Written::Refused(number);
+    if let Outcome::Refused(refused, _) = outcome {
+        return Written::Refused(refused);
     }
     write(plan, out)
 }
