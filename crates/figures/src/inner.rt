@@ -108,7 +108,7 @@ pub fn figure(plan: Plan, client: usize, m: usize) -> Figure
     }
 }
 
-// The figure of a client that can be asked about: 14.
+// The figure of a client that can be asked about, or 14.
 pub fn figures_of(plan: Plan, client: usize) -> Figures
     requires { ⌜ askedCheck plan client ≡ Fine ⌝ }
     ensures { λ r. ⌜ IsFigures plan client r ⌝ }
