@@ -181,7 +181,8 @@ pub fn tell_searched(
     let owners = searched.owners;
     match answer {
         Finding::Found => {
-            *length = put_stream(out, with_table(plan, owners));
+            let found = with_table(plan, owners);
+            *length = put_stream(out, found);
             0
         },
         Finding::None => {

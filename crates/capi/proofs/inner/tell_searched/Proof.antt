@@ -17,11 +17,11 @@ put-stream-requires c κs =
     let told = c .before .before .enum-told .given .1 in
     let fits = found-fits (args .plan) _ (args .searched .owners) (start .pre) told in
     let room : length (args .out .now) ≡ longest = search needs in
-    rw (c .with-table .ensures) (fits .0, fits .1, omega (arith, fits .2, room))
+    rw (c .before .with-table .ensures) (fits .0, fits .1, omega (arith, fits .2, room))
 
 returns : tie.Need-returns
 returns c =
-    let put = rw (c .before .with-table .ensures) at (c .put-stream .ensures .0) in
+    let put = rw (c .before .before .with-table .ensures) at (c .put-stream .ensures .0) in
     rw (c .before .before .before .enum-told .given .1) (refl, put)
 
 returns-2 : tie.Need-returns-2
