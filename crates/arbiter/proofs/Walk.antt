@@ -176,8 +176,8 @@ module _ {M : Type 1} {𝓤 : URA M} {H : Heap 𝓤} {A : Atoms 𝓤} (W : Given
     abbrev returned : Val → F .gives .type .D → Item 𝓤
     returned v r = (tokens p A ⊛ ‵ (row (F .gives) .own r (v ∷ []))) ⊛ some (ensured r)
 
-    -- a call takes what is passed, which is one entry while the operands are read. It hands back what is ensured, what is
-    -- said of w, and the tokens; r is to land
+    -- a call takes what is passed, which is one entry while the operands are read. It hands back what is ensured, what
+    -- is said of w, and the tokens; r is to land
     pub calls-on : {Γ : List (Item 𝓤)} {C : Calls 𝓤 H} {Λ : Loops 𝓤 H} {E : Env 𝓤 H} {q : Post 𝓤 H} {k : Name}
         {xs : List Operand} {d : Place} {rest : Body} → FmC 𝓤 H (W .laws) C → Triple 𝓤 (C k) contract-of
         → ent 𝓤 (emp 𝓤) (c (p .lfts) (args p) .requires g) → Fits plans (p .plan)
@@ -252,7 +252,8 @@ module _ {M : Type 1} {𝓤 : URA M} {H : Heap 𝓤} {A : Atoms 𝓤} (W : Given
 -- a function's clauses, at every model
 abbrev Stated : Form → Type 2
 Stated F =
-    (M : Type 1) (𝓤 : URA M) (H : Heap 𝓤) (A : Atoms 𝓤) → (Memory → SProp 𝓤) → (Routine → Fun 𝓤) → Clauses 𝓤 (ended F)
+    (M : Type 1) (𝓤 : URA M) (H : Heap 𝓤) (A : Atoms 𝓤) → (Memory → SProp 𝓤) → (Routine → Fun 𝓤)
+    → Clauses 𝓤 (ended F)
 
 -- a walk of e, in which k is called
 abbrev pub Walk : (F F′ : Form) → Stated F → Stated F′ → Fn → Name → Type 2

@@ -47,9 +47,6 @@ module _ (t : ℕ) where
       let args = c .before .args in
       (omega arith, nodes-small (args .n) (args .front) (c .before .pre .1 .0))
 
-  add-if1 : lts.Need-add-if1 (calls t) (pre-at t) explore.Post Inv-loop μ-loop
-  add-if1 c = search needs
-
   returns : lts.Need-returns (calls t) (pre-at t) explore.Post Inv-loop μ-loop
   returns c =
       let start = c .before .before .before in
@@ -95,12 +92,6 @@ module _ (t : ℕ) where
       let measure = start .pre .0 in
       (omega arith, (c .longer .ensures .0, omega arith, omega arith, omega arith))
 
-  add-owner : lts.Need-add-owner (calls t) (pre-at t) explore.Post Inv-loop μ-loop
-  add-owner c = search needs
-
-  loop-less : lts.Need-loop-less (calls t) (pre-at t) explore.Post Inv-loop μ-loop
-  loop-less c = search needs
-
   loop-again : lts.Need-loop-again (calls t) (pre-at t) explore.Post Inv-loop μ-loop
   loop-again c =
       let start = c .before .before .before .before .before .before .before .before .before in
@@ -132,7 +123,7 @@ pub +explore-spec : {M : Type 1} → statement M
     Inv-loop
     μ-loop
     (need-requires t)
-    (add-if1 t)
+    (λ c. search needs)
     (returns t)
     (add-if2 t)
     (returns-2 t)
@@ -140,7 +131,7 @@ pub +explore-spec : {M : Type 1} → statement M
     (loop-holds t)
     (longer-requires t)
     (explore-requires t)
-    (add-owner t)
-    (loop-less t)
+    (λ c. search needs)
+    (λ c. search needs)
     (loop-again t)
     (returns-4 t)

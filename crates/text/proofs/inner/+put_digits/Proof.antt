@@ -38,16 +38,10 @@ calls t = (
 )
 
 module _ (t : ℕ) where
-  last-digit-requires : lts.Need-last-digit-requires (calls t) (pre-at t) put-digits.Post
-  last-digit-requires c κs = search needs
-
   put-byte-requires : lts.Need-put-byte-requires (calls t) (pre-at t) put-digits.Post
   put-byte-requires c κs =
       let start = c .before .before .before .before in
       omega (arith, one-length (start .args .x) (omega arith))
-
-  same-length : lts.Need-same-length (calls t) (pre-at t) put-digits.Post
-  same-length c = search needs
 
   returns : lts.Need-returns (calls t) (pre-at t) put-digits.Post
   returns c =
@@ -62,17 +56,11 @@ module _ (t : ℕ) where
       let less = div-lt-self {n = args .x} {k = 10} (omega arith) (omega arith) in
       (omega (arith, less), omega (arith, more-length (args .x) (omega arith)))
 
-  last-digit-requires-2 : lts.Need-last-digit-requires-2 (calls t) (pre-at t) put-digits.Post
-  last-digit-requires-2 c κs = search needs
-
   put-byte-requires-2 : lts.Need-put-byte-requires-2 (calls t) (pre-at t) put-digits.Post
   put-byte-requires-2 c κs =
       let args = c .before .before .before .before .before .before .before .before .args in
       let put = c .before .before .before .before .put-digits .ensures in
       omega (arith, put .place, put-length put, more-length (args .x) (omega arith))
-
-  same-length-2 : lts.Need-same-length-2 (calls t) (pre-at t) put-digits.Post
-  same-length-2 c = search needs
 
   returns-2 : lts.Need-returns-2 (calls t) (pre-at t) put-digits.Post
   returns-2 c =
@@ -86,12 +74,12 @@ pub +put-digits-spec : {M : Type 1} → statement M
 +put-digits-spec =
     close μ-put-digits λ t.
     lts.spec (calls t) (pre-at t) put-digits.Post
-    (last-digit-requires t)
+    (λ c κs. search needs)
     (put-byte-requires t)
-    (same-length t)
+    (λ c. search needs)
     (returns t)
     (put-digits-requires t)
-    (last-digit-requires-2 t)
+    (λ c κs. search needs)
     (put-byte-requires-2 t)
-    (same-length-2 t)
+    (λ c. search needs)
     (returns-2 t)
