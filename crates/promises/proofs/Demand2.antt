@@ -1,8 +1,7 @@
 -- Demand 2; judging and searching stand in Accepted.antt. Plan files: "Plans written are read back the same, and
 -- streams read are written back byte for byte". The hypotheses that a list holds bytes (Bytes) and that a plan's
 -- numbers have two bytes (Held) are what the types say: the contracts of `stream`'s `read`, `write`, `rewritten` and
--- `reread` have none. Figures: the latency L/m is the least one of Definition 1,
--- over the arbiter's runs.
+-- `reread` have none. Figures: the latency L/m is the least one of Definition 1, over the arbiter's runs.
 -- Assumes nothing.
 use mathlib.Core.Path.{_≡_, refl}
 use mathlib.Core.List.{List}

@@ -1,5 +1,5 @@
--- Laws of a plan stream's records and their places: what decides a record's check, what a record that passes says, and
--- where the next one stands.
+-- Laws of a plan stream's records and their places: what a kind is, what decides a record's check, what a record that
+-- passes says, and where the next one stands.
 -- Assumes nothing.
 use mathlib.Core.Path.{_≡_, refl, ap, sym, _∙_}
 use mathlib.Core.Bool.{Bool, true, false}
