@@ -58,7 +58,7 @@ module _ (plan : Plan) (arb : Arbiter) (xs : List ℕ) (ok : Steps plan (arb .po
   module _ (i : ℕ) (i< : i < plan .n) where
     -- left and served make up what was pending and what is taken
     pub step-balance : countOf (stepOf plan arb xs .next) i
-        + isClient (i + 1) (clientServed (stepOf plan arb xs .answer .service))
+        + isClient (i + 1) (clientServed (stepOf plan arb xs .served .answer))
         ≡ countOf arb i + ruleOf plan i .takes (countOf arb i) (arrivedOf xs i)
     step-balance =
         let s = arb .position in
@@ -67,7 +67,7 @@ module _ (plan : Plan) (arb : Arbiter) (xs : List ℕ) (ok : Steps plan (arb .po
 
     -- what is taken and what is turned away make up what arrives, so that no more is taken
     pub step-rest : ruleOf plan i .takes (countOf arb i) (arrivedOf xs i)
-        + getD (stepOf plan arb xs .answer .turned) i 0 ≡ arrivedOf xs i
+        + getD (stepOf plan arb xs .served .turned) i 0 ≡ arrivedOf xs i
     step-rest = rw (step-turned plan arb xs ok i i<) (rule-rest plan i (countOf arb i) (arrivedOf xs i))
 
   advanced-kept : (i : ℕ) → plan .n ≤ i → countOf (advanced plan arb xs .next) i ≡ countOf arb i
@@ -89,14 +89,14 @@ step-kept plan arb xs i n≤ =
 
 -- "each client's turned-away count, 0 past n"
 pub step-none : (plan : Plan) (arb : Arbiter) (xs : List ℕ) (i : ℕ) → plan .n ≤ i
-    → getD (stepOf plan arb xs .answer .turned) i 0 ≡ 0
+    → getD (stepOf plan arb xs .served .turned) i 0 ≡ 0
 unfolding advanced
 step-none plan arb xs i n≤ =
-    either (λ (r : Stepped). getD (r .answer .turned) i 0 ≡ 0) plan arb xs (λ number. get-replicate 8 0 i)
+    either (λ (r : Stepped). getD (r .served .turned) i 0 ≡ 0) plan arb xs (λ number. get-replicate 8 0 i)
     (λ fine. padded-past (turnedAt plan arb xs) (plan .n) 8 0 i n≤)
 
 -- a step that is not refused has the bounds
-pub step-bounds : (plan : Plan) (arb : Arbiter) (xs : List ℕ) → stepNumber (stepOf plan arb xs .answer .service) ≡ 0
+pub step-bounds : (plan : Plan) (arb : Arbiter) (xs : List ℕ) → stepNumber (stepOf plan arb xs .served .answer) ≡ 0
     → Steps plan (arb .position) (length xs)
 step-bounds plan arb xs none =
     let numbered = step-numbered refusal.arrivals (omega arith) plan (arb .position) (length xs) in

@@ -11,8 +11,8 @@ use Rattle.frame.specs.Frame.{nextOf}
 use Rattle.records.specs.Refusal as refusal
 use Rattle.records.specs.First.{orElse, Numbered}
 use Rattle.records.specs.declared.Outcome.the-variants.{Fine}
-use Rattle.records.proofs.Checks.{both-fine, need-fine}
-use Rattle.records.proofs.Refusals.{or-each, need-numbered}
+use Rattle.records.proofs.Checks.{both-fine, unless-fine}
+use Rattle.records.proofs.Refusals.{or-each, unless-numbered}
 use Rattle.plan.specs.declared.Plan.{Plan}
 use Rattle.plan.specs.Plan.{ownerOf}
 use Rattle.plan.specs.Check.{planCheck}
@@ -34,8 +34,8 @@ step-fine plan position arrived h =
     let b = both-fine _ _ (a .1) in
     record {
       checked = plan-fine plan (a .0);
-      below = ltb-true position (plan .f) (need-fine _ refusal.position 0 (b .0));
-      many = eqb-true arrived (plan .n) (need-fine _ refusal.arrivals 0 (b .1));
+      below = ltb-true position (plan .f) (unless-fine _ refusal.position 0 (b .0));
+      many = eqb-true arrived (plan .n) (unless-fine _ refusal.arrivals 0 (b .1));
     }
 
 pub step-pass : (plan : Plan) (position arrived : ℕ) → Steps plan position arrived
@@ -66,5 +66,5 @@ step-numbered most h plan position arrived =
     let many = arrivalsCheck (plan .n) arrived in
     or-each (Numbered most) (planCheck plan) (orElse below many) (plan-numbered most (omega arith) plan)
     (or-each (Numbered most) below many
-    (need-numbered most (ltb position (plan .f)) refusal.position 0 (omega arith) (omega arith))
-    (need-numbered most (eqb arrived (plan .n)) refusal.arrivals 0 (omega arith) h))
+    (unless-numbered most (ltb position (plan .f)) refusal.position 0 (omega arith) (omega arith))
+    (unless-numbered most (eqb arrived (plan .n)) refusal.arrivals 0 (omega arith) h))

@@ -58,7 +58,7 @@ module _ (plan : Plan) (arb : Arbiter) (xs : List ℕ) (ok : Steps plan (arb .po
     served-here =
         rw joined-at at (serves-is (ownerOf plan (arb .position)) i (joined plan arb xs))
 
-    pub step-turned : getD (stepOf plan arb xs .answer .turned) i 0 ≡ turnedAt plan arb xs i
+    pub step-turned : getD (stepOf plan arb xs .served .turned) i 0 ≡ turnedAt plan arb xs i
     unfolding advanced
     step-turned = rw advances-so (get-padded (turnedAt plan arb xs) (plan .n) 8 0 i i<)
 
@@ -67,7 +67,7 @@ module _ (plan : Plan) (arb : Arbiter) (xs : List ℕ) (ok : Steps plan (arb .po
       unfolding ownIn
       own-here = rw at
 
-      pub step-served : isClient (i + 1) (clientServed (stepOf plan arb xs .answer .service))
+      pub step-served : isClient (i + 1) (clientServed (stepOf plan arb xs .served .answer))
           ≡ serve (ownOf plan (i + 1) s) (queueAt plan arb xs i)
       unfolding advanced
       step-served = rw (advances-so, ← own-here) served-here

@@ -66,7 +66,7 @@ module _ (plan : Plan) (arb other : Arbiter) (xs : List ℕ) (place : arb .posit
       ∙ sym (get-onto (queueAt plan other xs) (plan .n) (other .pending) 0 i l)
 
   advanced-unread : Steps plan (arb .position) (length xs)
-      → advanced plan arb xs .answer ≡ advanced plan other xs .answer
+      → advanced plan arb xs .served ≡ advanced plan other xs .served
   unfolding advanced
   advanced-unread ok =
       let owner = ok .checked .owned (arb .position) (ok .below) in
@@ -78,15 +78,15 @@ module _ (plan : Plan) (arb other : Arbiter) (xs : List ℕ) (place : arb .posit
       (λ i l. ap (λ (v : ℕ). ruleOf plan i .turns v (arrivedOf xs i)) (counts i l)) in
       rw (served, turned)
 
-  pub answer-unread : stepOf plan arb xs .answer ≡ stepOf plan other xs .answer
-  answer-unread = by (stepCheck plan (arb .position) (length xs)) refl
+  pub served-unread : stepOf plan arb xs .served ≡ stepOf plan other xs .served
+  served-unread = by (stepCheck plan (arb .position) (length xs)) refl
     where
       at-other : (o : Outcome) → stepCheck plan (arb .position) (length xs) ≡ o
           → stepCheck plan (other .position) (length xs) ≡ o
       at-other o e = rw place at e
 
       by : (o : Outcome) → stepCheck plan (arb .position) (length xs) ≡ o
-          → stepOf plan arb xs .answer ≡ stepOf plan other xs .answer
+          → stepOf plan arb xs .served ≡ stepOf plan other xs .served
       by Fine e =
           rw (step-advances plan arb xs e, step-advances plan other xs (at-other Fine e))
           (advanced-unread (step-fine plan _ _ e))

@@ -21,7 +21,7 @@ use Rattle.plan.specs.declared.Plan.{Plan}
 use Rattle.plan.specs.Plan.{ownerOf, isClient}
 use Rattle.plan.proofs.Laws.{client-is, client-not}
 use Rattle.arbiter.specs.declared.Arbiter.{Arbiter}
-use Rattle.arbiter.specs.declared.Service.the-variants.{Given}
+use Rattle.arbiter.specs.declared.StepAnswer.the-variants.{Given}
 use Rattle.arbiter.specs.declared.Stepped.{Stepped}
 use Rattle.arbiter.specs.Step.{servedBy, lessOne, turnedAt, joined, servedNow, advanced, stepCheck}
 use Rattle.arbiter.specs.Step.{refusedStep, steppedBy, stepOf, stepNumber, clientServed}
@@ -127,7 +127,7 @@ pub advances : (plan : Plan) (arb : Arbiter) (xs left turned : List ℕ) (served
     → served ≡ servedNow plan arb xs → left ≡ lessOne served (joined plan arb xs)
     → turned ≡ onto (turnedAt plan arb xs) (plan .n) (replicate 8 0) → next ≡ nextOf (plan .f) (arb .position)
     → record {
-      answer = record { service = Given served; turned = turned };
+      served = record { answer = Given served; turned = turned };
       next = record { position = next; pending = left };
     } ≡ advanced plan arb xs
 unfolding advanced padded
@@ -144,14 +144,14 @@ pub step-advances : (plan : Plan) (arb : Arbiter) (xs : List ℕ)
 unfolding stepOf
 step-advances plan arb xs h = rw h
 
-number-by : (o : Outcome) (goes : Stepped) (arb : Arbiter) → stepNumber (goes .answer .service) ≡ 0
-    → stepNumber (steppedBy o goes arb .answer .service) ≡ numberOf o
+number-by : (o : Outcome) (goes : Stepped) (arb : Arbiter) → stepNumber (goes .served .answer) ≡ 0
+    → stepNumber (steppedBy o goes arb .served .answer) ≡ numberOf o
 number-by outcome.Fine goes arb h = h
 number-by (outcome.Refused number offset) goes arb h = refl
 
 -- its number is the first refusal's
 pub step-number : (plan : Plan) (arb : Arbiter) (xs : List ℕ)
-    → stepNumber (stepOf plan arb xs .answer .service) ≡ numberOf (stepCheck plan (arb .position) (length xs))
+    → stepNumber (stepOf plan arb xs .served .answer) ≡ numberOf (stepCheck plan (arb .position) (length xs))
 unfolding stepOf advanced
 step-number plan arb xs = number-by (stepCheck plan (arb .position) (length xs)) (advanced plan arb xs) arb refl
 
@@ -168,10 +168,10 @@ either P plan arb xs refused goes = by (stepCheck plan (arb .position) (length x
 
 -- it names nobody but the slot's owner
 pub step-named : (plan : Plan) (arb : Arbiter) (xs : List ℕ)
-    → (clientServed (stepOf plan arb xs .answer .service) ≡ 0)
-    ⊎ (clientServed (stepOf plan arb xs .answer .service) ≡ ownerOf plan (arb .position))
+    → (clientServed (stepOf plan arb xs .served .answer) ≡ 0)
+    ⊎ (clientServed (stepOf plan arb xs .served .answer) ≡ ownerOf plan (arb .position))
 unfolding advanced
 step-named plan arb xs =
-    either (λ (r : Stepped). (clientServed (r .answer .service) ≡ 0)
-    ⊎ (clientServed (r .answer .service) ≡ ownerOf plan (arb .position))) plan arb xs (λ number. inl refl)
+    either (λ (r : Stepped). (clientServed (r .served .answer) ≡ 0)
+    ⊎ (clientServed (r .served .answer) ≡ ownerOf plan (arb .position))) plan arb xs (λ number. inl refl)
     (λ fine. served-either (ownerOf plan (arb .position)) (joined plan arb xs))

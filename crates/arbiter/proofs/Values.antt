@@ -1,4 +1,4 @@
--- The plain data in the walks of `step_in_place` and `step_lent`: plans, records, answers and a step's results.
+-- The plain data in the walks of `step_in_place` and `step_lending`: plans, records, answers and a step's results.
 -- Each has one machine value, which is of its type. What plain data owns is only facts, so it is had for nothing.
 -- Assumes nothing.
 use mathlib.Core.List.{List, [], _∷_}
@@ -23,8 +23,8 @@ use Rattle.plan.proofs.Plan as plan
 use Rattle.plan.proofs.Plan.Laws as plan-laws
 use Rattle.arbiter.proofs.Arbiter as arbiter
 use Rattle.arbiter.proofs.Arbiter.Laws as arbiter-laws
-use Rattle.arbiter.proofs.Answer as answer
-use Rattle.arbiter.proofs.Answer.Laws as answer-laws
+use Rattle.arbiter.proofs.Served as served
+use Rattle.arbiter.proofs.Served.Laws as served-laws
 use Rattle.arbiter.proofs.Stepped as stepped
 use Rattle.arbiter.proofs.Stepped.Laws as stepped-laws
 
@@ -40,8 +40,8 @@ plans = record { type = plan.the-type; laws = plan-laws.the-laws; facts = plan-l
 abbrev pub records : Plain
 records = record { type = arbiter.the-type; laws = arbiter-laws.the-laws; facts = arbiter-laws.the-plain }
 
-abbrev pub answers : Plain
-answers = record { type = answer.the-type; laws = answer-laws.the-laws; facts = answer-laws.the-plain }
+abbrev pub replies : Plain
+replies = record { type = served.the-type; laws = served-laws.the-laws; facts = served-laws.the-plain }
 
 abbrev pub results : Plain
 results = record { type = stepped.the-type; laws = stepped-laws.the-laws; facts = stepped-laws.the-plain }
@@ -76,14 +76,14 @@ module _ (S : Plain) where
 
 -- ---- the result of a step fits just where its parts do
 
-pub answer-fits : (out : Stepped) → Fits results out → Fits answers (out .answer)
-answer-fits out fits = struct.owed (results .type) (results .laws) out _ fits .0
+pub served-fits : (out : Stepped) → Fits results out → Fits replies (out .served)
+served-fits out fits = struct.owed (results .type) (results .laws) out _ fits .0
 
 pub next-fits : (out : Stepped) → Fits results out → Fits records (out .next)
 next-fits out fits = struct.owed (results .type) (results .laws) out _ fits .1 .0
 
-pub result-fits : (out : Stepped) → Fits answers (out .answer) → Fits records (out .next) → Fits results out
-result-fits out answer next = struct.owes (results .type) (results .laws) out (answer, (next, tt))
+pub result-fits : (out : Stepped) → Fits replies (out .served) → Fits records (out .next) → Fits results out
+result-fits out served next = struct.owes (results .type) (results .laws) out (served, (next, tt))
 
 -- ---- steps of a walk
 

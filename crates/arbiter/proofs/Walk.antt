@@ -1,6 +1,6 @@
--- What the walks of `step_in_place` and `step_lent` share. Each of the two, and each function that they call, takes a
--- plan, a record and arrivals. Its form says how it takes them and what it gives. For every form this file has what is
--- there at entry, a call and what it hands back, the exit, and the theorem that a walk makes.
+-- What the walks of `step_in_place` and `step_lending` share. Each of the two, and each function that they call, takes
+-- a plan, a record and arrivals. Its form says how it takes them and what it gives. For every form this file has what
+-- is there at entry, a call and what it hands back, the exit, and the theorem that a walk makes.
 -- Assumes nothing.
 use mathlib.Core.Path.{_≡_, refl, ap}
 use Prim.Native.Nat.{ℕ, zero, suc}
@@ -39,7 +39,7 @@ use denote.Triple.Clauses.{Ended, Clauses, Lasts, atExit, lasts, closing}
 use denote.Triple.Call.{calls-at}
 use denote.Triple.Table.{entered, cited}
 use Rattle.plan.specs.declared.Plan.{Plan}
-use Rattle.arbiter.proofs.Values.{Plain, plans, records, answers, results, row, value, vals}
+use Rattle.arbiter.proofs.Values.{Plain, plans, records, replies, results, row, value, vals}
 use Rattle.arbiter.proofs.Values.{Fits, tells, fits, makes}
 
 -- ---- the forms
@@ -55,7 +55,7 @@ pub record Form : Type 2 where
   pub lifetime : Lfts lifetimes → Lft
   pub gives : Plain
 
--- `step` and `step_lent`: the record is passed by value
+-- `step` and `step_lending`: the record is passed by value
 abbrev pub by-value : Form
 by-value = record {
   lifetimes = 1;
@@ -76,7 +76,7 @@ by-reference = record {
   spells = λ κs. mut-tells (named 0) (κs .0) (row records);
   number = 1;
   lifetime = λ κs. κs .1 .0;
-  gives = answers;
+  gives = replies;
 }
 
 module _ (F : Form) where

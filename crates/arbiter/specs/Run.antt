@@ -39,11 +39,11 @@ module _ (plan : Plan) where
 module _ (plan : Plan) (i : ℕ) where
   -- how often it is served: in the steps that name it
   abbrev pub servedOf : Arbiter → List (List ℕ) → ℕ
-  servedOf = totalOf plan (λ arb xs. isClient (i + 1) (clientServed (stepOf plan arb xs .answer .service)))
+  servedOf = totalOf plan (λ arb xs. isClient (i + 1) (clientServed (stepOf plan arb xs .served .answer)))
 
   -- its requests that are turned away, as the steps count them
   abbrev pub turnedOf : Arbiter → List (List ℕ) → ℕ
-  turnedOf = totalOf plan (λ arb xs. getD (stepOf plan arb xs .answer .turned) i 0)
+  turnedOf = totalOf plan (λ arb xs. getD (stepOf plan arb xs .served .turned) i 0)
 
   -- the slots' worth of requests that join its pending count
   abbrev pub takenOf : Arbiter → List (List ℕ) → ℕ

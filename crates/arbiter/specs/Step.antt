@@ -6,7 +6,7 @@ use lib.ListN.{length, getD, set, replicate}
 use Rattle.frame.specs.Frame.{nextOf}
 use Rattle.frame.specs.Queue.{Rule, oneSlot, queue}
 use Rattle.records.specs.Refusal as refusal
-use Rattle.records.specs.First.{pick, need, orElse}
+use Rattle.records.specs.First.{pick, unless, orElse}
 use Rattle.records.specs.Pieces.{onto, padded}
 use Rattle.records.specs.declared.Outcome.{Outcome}
 use Rattle.records.specs.declared.Outcome.the-variants as outcome
@@ -15,8 +15,8 @@ use Rattle.plan.specs.declared.Plan.{Plan}
 use Rattle.plan.specs.Plan.{clientOf, ownerOf}
 use Rattle.plan.specs.Check.{planCheck}
 use Rattle.arbiter.specs.declared.Arbiter.{Arbiter}
-use Rattle.arbiter.specs.declared.Service.{Service}
-use Rattle.arbiter.specs.declared.Service.the-variants as service
+use Rattle.arbiter.specs.declared.StepAnswer.{StepAnswer}
+use Rattle.arbiter.specs.declared.StepAnswer.the-variants as answer
 use Rattle.arbiter.specs.declared.Stepped.{Stepped}
 
 -- ---- one slot
@@ -69,7 +69,7 @@ module _ (plan : Plan) (arb : Arbiter) (xs : List ℕ) where
   unfoldable pub advanced : Stepped
   advanced =
       record {
-        answer = record { service = service.Given servedNow; turned = padded turnedAt (plan .n) 8 0 };
+        served = record { answer = answer.Given servedNow; turned = padded turnedAt (plan .n) 8 0 };
         next = record { position = nextOf (plan .f) (arb .position); pending = lessOne servedNow joined };
       }
 
@@ -77,11 +77,11 @@ module _ (plan : Plan) (arb : Arbiter) (xs : List ℕ) where
 
 -- 17: "the arbiter's position is not below f"
 unfoldable pub positionCheck : ℕ → ℕ → Outcome
-positionCheck f position = need (ltb position f) refusal.position 0
+positionCheck f position = unless (ltb position f) refusal.position 0
 
 -- 18: "the arrivals list does not have n entries"
 unfoldable pub arrivalsCheck : ℕ → ℕ → Outcome
-arrivalsCheck n arrived = need (eqb arrived n) refusal.arrivals 0
+arrivalsCheck n arrived = unless (eqb arrived n) refusal.arrivals 0
 
 -- "a step 17, 18", after the plan's checks
 unfoldable pub stepCheck : Plan → ℕ → ℕ → Outcome
@@ -91,7 +91,7 @@ stepCheck plan position arrived =
 -- "A refusal .. returns its number with all other results 0, leaves .. an arbiter record unchanged"
 abbrev pub refusedStep : ℕ → Arbiter → Stepped
 refusedStep number arb =
-    record { answer = record { service = service.Refused number; turned = replicate 8 0 }; next = arb }
+    record { served = record { answer = answer.Refused number; turned = replicate 8 0 }; next = arb }
 
 -- what a step gives, by what its checks found
 abbrev pub steppedBy : Outcome → Stepped → Arbiter → Stepped
@@ -105,11 +105,11 @@ stepOf plan arb xs = steppedBy (stepCheck plan (arb .position) (length xs)) (adv
 -- ---- the answer's cases
 
 -- an answer's number, 0 where nothing is refused
-abbrev pub stepNumber : Service → ℕ
-stepNumber (service.Given client) = 0
-stepNumber (service.Refused number) = number
+abbrev pub stepNumber : StepAnswer → ℕ
+stepNumber (answer.Given client) = 0
+stepNumber (answer.Refused number) = number
 
 -- "The result names the client served, or 0", as a refusal does
-abbrev pub clientServed : Service → ℕ
-clientServed (service.Given client) = client
-clientServed (service.Refused number) = 0
+abbrev pub clientServed : StepAnswer → ℕ
+clientServed (answer.Given client) = client
+clientServed (answer.Refused number) = 0

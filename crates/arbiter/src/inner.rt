@@ -1,7 +1,7 @@
 // A step's checks, and the step that is not refused, part by part.
-use super::Answer;
+use super::Served;
 use super::Arbiter;
-use super::Service;
+use super::StepAnswer;
 use super::Stepped;
 use frame::inner::next;
 use plan::Plan;
@@ -94,7 +94,7 @@ fn arrive(plan: Plan, pending: &mut [u8], arrivals: &[u8], turned: &mut [u8])
 }
 
 // The client served in a slot of this owner, 0 for none; its lent count is then one less.
-fn serve(owner: usize, counts: &mut [u8; 8]) -> usize
+fn serve_owner(owner: usize, counts: &mut [u8; 8]) -> usize
     requires { ⌜ owner ≤ 8 ⌝ }
     ensures { λ r. ⌜ (r ≡ servedBy owner (now (counts .entry)))
         × (now (counts .exit) ≡ lessOne r (now (counts .entry))) ⌝ }
@@ -128,7 +128,7 @@ pub fn serve_slot(
     let owners = plan.owners;
     let owner = wide(owners[position]);
     arrive(plan, pending, arrivals, turned);
-    serve(owner, pending)
+    serve_owner(owner, pending)
 }
 
 // A step that is not refused, for callers that step often on one plan that they have checked.
@@ -139,9 +139,9 @@ pub fn advance(plan: Plan, arbiter: Arbiter, arrivals: &[u8]) -> Stepped
     let position = arbiter.position;
     let mut pending = arbiter.pending;
     let mut turned = [0u8; 8];
-    let served = serve_slot(plan, position, &mut pending, arrivals, &mut turned);
-    let answer = Answer {
-        service: Service::Given(served),
+    let client = serve_slot(plan, position, &mut pending, arrivals, &mut turned);
+    let served = Served {
+        answer: StepAnswer::Given(client),
         turned: turned,
     };
     let after = Arbiter {
@@ -149,7 +149,7 @@ pub fn advance(plan: Plan, arbiter: Arbiter, arrivals: &[u8]) -> Stepped
         pending: pending,
     };
     Stepped {
-        answer: answer,
+        served: served,
         next: after,
     }
 }

@@ -14,20 +14,20 @@ pub struct Arbiter {
 }
 
 // The client served in a slot, 0 where it passes unused; or the refusal's number.
-pub enum Service {
+pub enum StepAnswer {
     Given(usize),
     Refused(u8),
 }
 
 // What a step says: whom it served, and each client's requests turned away.
-pub struct Answer {
-    pub service: Service,
+pub struct Served {
+    pub answer: StepAnswer,
     pub turned: [u8; 8],
 }
 
 // What a step gives: its answer, and the record after it.
 pub struct Stepped {
-    pub answer: Answer,
+    pub served: Served,
     pub next: Arbiter,
 }
 
@@ -38,12 +38,12 @@ pub fn step(plan: Plan, arbiter: Arbiter, arrivals: &[u8]) -> Stepped
     let checked = inner::check_step(plan, arbiter.position, arrivals.len());
     if let Outcome::Refused(number, offset) = checked {
         let none = [0u8; 8];
-        let answer = Answer {
-            service: Service::Refused(number),
+        let served = Served {
+            answer: StepAnswer::Refused(number),
             turned: none,
         };
         return Stepped {
-            answer: answer,
+            served: served,
             next: arbiter,
         };
     }
@@ -51,23 +51,23 @@ pub fn step(plan: Plan, arbiter: Arbiter, arrivals: &[u8]) -> Stepped
 }
 
 // The same step on a record that is lent and changed in place.
-pub fn step_in_place(plan: Plan, arbiter: &mut Arbiter, arrivals: &[u8]) -> Answer
-    ensures { λ r. ⌜ (r ≡ stepOf plan (now (arbiter .entry)) (now (arrivals .entry)) .answer)
+pub fn step_in_place(plan: Plan, arbiter: &mut Arbiter, arrivals: &[u8]) -> Served
+    ensures { λ r. ⌜ (r ≡ stepOf plan (now (arbiter .entry)) (now (arrivals .entry)) .served)
         × (now (arbiter .exit) ≡ stepOf plan (now (arbiter .entry)) (now (arrivals .entry)) .next) ⌝ }
 {
     let out = step(plan, *arbiter, arrivals);
     *arbiter = out.next;
-    out.answer
+    out.served
 }
 
 // The step in place, called on a local that is lent: it gives what `step` gives.
-pub fn step_lent(plan: Plan, arbiter: Arbiter, arrivals: &[u8]) -> Stepped
+pub fn step_lending(plan: Plan, arbiter: Arbiter, arrivals: &[u8]) -> Stepped
     ensures { λ r. ⌜ r ≡ stepOf plan arbiter (now (arrivals .entry)) ⌝ }
 {
     let mut lent = arbiter;
-    let answer = step_in_place(plan, &mut lent, arrivals);
+    let served = step_in_place(plan, &mut lent, arrivals);
     Stepped {
-        answer: answer,
+        served: served,
         next: lent,
     }
 }

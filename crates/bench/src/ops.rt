@@ -6,18 +6,18 @@ use super::reply::put_end;
 use super::reply::put_number;
 use super::reply::put_numbers;
 use super::reply::put_refusal;
-use super::reply::put_word;
-use arbiter::Service;
+use super::reply::put_next;
+use arbiter::StepAnswer;
 use arbiter::Stepped;
-use figures::Figures;
-use figures::Wait;
-use judge::Judged;
+use figures::FigureAnswer;
+use figures::WaitAnswer;
+use judge::JudgeAnswer;
 use judge::Judgement;
 use judge::Verdict;
 use plan::Client;
 use plan::Plan;
 use records::Outcome;
-use stream::Written;
+use stream::WriteAnswer;
 use text::PAGE;
 
 // A client's p, q, a and b.
@@ -45,7 +45,7 @@ fn put_plan(out: &mut [u8; PAGE], plan: Plan) -> usize {
     let n = plan.n;
     let clients = plan.clients;
     let owners = plan.owners;
-    let at = put_word(out, 0, b"plan");
+    let at = put_next(out, 0, b"plan");
     let at = put_number(out, at, f);
     let at = put_number(out, at, n);
     let at = put_clients(out, at, clients, n);
@@ -61,17 +61,17 @@ fn read(out: &mut [u8; PAGE], case: &[u8]) -> usize {
         Outcome::Fine => put_plan(out, plan),
         Outcome::Refused(number, offset) => {
             let at = put_refusal(out, number);
-            let at = put_word(out, at, b"at");
+            let at = put_next(out, at, b"at");
             put_number(out, at, offset)
         },
     }
 }
 
 // What a write gives, but for the lent bytes.
-fn put_written(out: &mut [u8; PAGE], written: Written) -> usize {
+fn put_written(out: &mut [u8; PAGE], written: WriteAnswer) -> usize {
     match written {
-        Written::Bytes(_) => put_word(out, 0, b"ok"),
-        Written::Refused(number) => put_refusal(out, number),
+        WriteAnswer::Given(_) => put_next(out, 0, b"ok"),
+        WriteAnswer::Refused(number) => put_refusal(out, number),
     }
 }
 
@@ -92,19 +92,19 @@ fn write(out: &mut [u8; PAGE], case: &[u8]) -> usize {
 // 3: the figures of client x.
 fn figure(out: &mut [u8; PAGE], case: &[u8]) -> usize {
     match figures::figure_of(case::plan(case), case::x(case)) {
-        Figures::Given(figure) => {
+        FigureAnswer::Given(figure) => {
             let next = put_number(out, 0, figure.slots);
             put_number(out, next, figure.scaled)
         },
-        Figures::Refused(number) => put_refusal(out, number),
+        FigureAnswer::Refused(number) => put_refusal(out, number),
     }
 }
 
 // A wait, or its refusal.
-fn put_wait(out: &mut [u8; PAGE], wait: Wait) -> usize {
+fn put_wait(out: &mut [u8; PAGE], wait: WaitAnswer) -> usize {
     match wait {
-        Wait::Given(slots) => put_number(out, 0, slots),
-        Wait::Refused(number) => put_refusal(out, number),
+        WaitAnswer::Given(slots) => put_number(out, 0, slots),
+        WaitAnswer::Refused(number) => put_refusal(out, number),
     }
 }
 
@@ -124,7 +124,7 @@ fn default_wait(out: &mut [u8; PAGE], case: &[u8]) -> usize {
 // A client that is not ok: its number and verdict, and the stretch.
 fn put_failure(out: &mut [u8; PAGE], judgement: Judgement, verdict: &[u8]) -> usize {
     let at = put_number(out, 0, judgement.client);
-    let at = put_word(out, at, verdict);
+    let at = put_next(out, at, verdict);
     let at = put_number(out, at, judgement.start);
     put_number(out, at, judgement.length)
 }
@@ -133,7 +133,7 @@ fn put_failure(out: &mut [u8; PAGE], judgement: Judgement, verdict: &[u8]) -> us
 fn put_judgement(out: &mut [u8; PAGE], judgement: Judgement) -> usize {
     let verdict = judgement.verdict;
     match verdict {
-        Verdict::Ok => put_word(out, 0, b"accepted"),
+        Verdict::Ok => put_next(out, 0, b"accepted"),
         Verdict::Rate => put_failure(out, judgement, b"rate"),
         Verdict::Late => put_failure(out, judgement, b"late"),
     }
@@ -142,8 +142,8 @@ fn put_judgement(out: &mut [u8; PAGE], judgement: Judgement) -> usize {
 // 6: the plan is judged.
 fn judge(out: &mut [u8; PAGE], case: &[u8]) -> usize {
     match judge::judge(case::plan(case)) {
-        Judged::Given(judgement) => put_judgement(out, judgement),
-        Judged::Refused(number) => put_refusal(out, number),
+        JudgeAnswer::Given(judgement) => put_judgement(out, judgement),
+        JudgeAnswer::Refused(number) => put_refusal(out, number),
     }
 }
 
@@ -156,32 +156,32 @@ fn search(out: &mut [u8; PAGE], case: &[u8]) -> usize {
     let answer = searched.answer;
     let owners = searched.owners;
     match answer {
-        search::Finding::Found => put_numbers(out, 0, part(&owners, 0, f)),
-        search::Finding::None => put_word(out, 0, b"none"),
-        search::Finding::Refused(number) => put_refusal(out, number),
+        search::SearchAnswer::Found => put_numbers(out, 0, part(&owners, 0, f)),
+        search::SearchAnswer::None => put_next(out, 0, b"none"),
+        search::SearchAnswer::Refused(number) => put_refusal(out, number),
     }
 }
 
 // The client served and the turned-away counts.
-fn put_answer(out: &mut [u8; PAGE], answer: arbiter::Answer) -> usize {
-    let service = answer.service;
-    let turned = answer.turned;
-    match service {
-        Service::Given(client) => {
+fn put_served(out: &mut [u8; PAGE], served: arbiter::Served) -> usize {
+    let answer = served.answer;
+    let turned = served.turned;
+    match answer {
+        StepAnswer::Given(client) => {
             let next = put_number(out, 0, client);
             put_numbers(out, next, &turned)
         },
-        Service::Refused(number) => put_refusal(out, number),
+        StepAnswer::Refused(number) => put_refusal(out, number),
     }
 }
 
 // What a step answers, and the record after it.
 fn put_step(out: &mut [u8; PAGE], stepped: Stepped) -> usize {
-    let answer = stepped.answer;
+    let served = stepped.served;
     let after = stepped.next;
     let pending = after.pending;
-    let at = put_answer(out, answer);
-    let at = put_word(out, at, b":");
+    let at = put_served(out, served);
+    let at = put_next(out, at, b":");
     let at = put_number(out, at, after.position);
     put_numbers(out, at, &pending)
 }
@@ -195,10 +195,10 @@ fn step(out: &mut [u8; PAGE], case: &[u8]) -> usize {
 }
 
 // 9: one step in place, through the lent record.
-fn step_lent(out: &mut [u8; PAGE], case: &[u8]) -> usize {
+fn step_lending(out: &mut [u8; PAGE], case: &[u8]) -> usize {
     put_step(
         out,
-        arbiter::step_lent(case::plan(case), case::arbiter(case), case::arrivals(case)),
+        arbiter::step_lending(case::plan(case), case::arbiter(case), case::arrivals(case)),
     )
 }
 
@@ -214,8 +214,8 @@ fn put_line(out: &mut [u8; PAGE], case: &[u8]) -> usize {
         6 => judge(out, case),
         7 => search(out, case),
         8 => step(out, case),
-        9 => step_lent(out, case),
-        _ => put_word(out, 0, b"op?"),
+        9 => step_lending(out, case),
+        _ => put_next(out, 0, b"op?"),
     }
 }
 

@@ -25,7 +25,7 @@ fn put_space(out: &mut [u8; PAGE], at: usize) -> usize {
 }
 
 // The next word.
-pub fn put_word(out: &mut [u8; PAGE], at: usize, word: &[u8]) -> usize {
+pub fn put_next(out: &mut [u8; PAGE], at: usize, word: &[u8]) -> usize {
     let next = put_space(out, at);
     put_piece(out, next, word)
 }
@@ -50,7 +50,7 @@ pub fn put_numbers(out: &mut [u8; PAGE], at: usize, bytes: &[u8]) -> usize {
 
 // The first words of a reply that is a refusal.
 pub fn put_refusal(out: &mut [u8; PAGE], number: u8) -> usize {
-    let next = put_word(out, 0, b"refusal");
+    let next = put_next(out, 0, b"refusal");
     put_number(out, next, wide(number))
 }
 

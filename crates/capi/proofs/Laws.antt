@@ -18,8 +18,8 @@ use Rattle.stream.specs.Read.{readOf}
 use Rattle.stream.specs.Write.{streamOf, longest}
 use Rattle.stream.specs.declared.Reading.{Reading}
 use Rattle.stream.proofs.Lengths.{length-stream}
-use Rattle.search.specs.declared.Finding.{Finding}
-use Rattle.search.specs.declared.Finding.the-variants as finding
+use Rattle.search.specs.declared.SearchAnswer.{SearchAnswer}
+use Rattle.search.specs.declared.SearchAnswer.the-variants as finding
 use Rattle.search.specs.declared.Searched.{Searched}
 use Rattle.search.specs.Search.{idlePlan, searchCheck, SearchedAs, searchedNumber}
 use Rattle.search.proofs.Questions.{search-fine}
@@ -31,7 +31,7 @@ use Rattle.arbiter.proofs.Questions.{step-fine, owner-small}
 use Rattle.arbiter.proofs.Slots.{served-at-most, either}
 use Rattle.arbiter.proofs.Runs.{passes-again}
 use Rattle.capi.specs.Calls.{firstNumber, Told, IsSearchedFor, foundStream, ToldSearch}
-use Rattle.capi.specs.Calls.{recordIn, recordBytes, answerBytes, ToldStep}
+use Rattle.capi.specs.Calls.{recordIn, recordBytes, servedBytes, ToldStep}
 
 -- ---- an answer about what was read
 
@@ -81,8 +81,8 @@ told-refused {k = k} {reading = reading} e f g =
 -- a step on the plan and with the record that were read
 pub told-step : {s bytes xs after answer : List ℕ} {t r : ℕ} {reading : Reading} {arb : Arbiter} (stepped : Stepped)
     → reading ≡ readOf s → arb ≡ recordIn bytes → stepped ≡ stepOf (reading .plan) arb xs
-    → t ≡ stepNumber (stepped .answer .service) → r ≡ firstNumber (reading .outcome) t
-    → after ≡ recordBytes (stepped .next) → answer ≡ answerBytes (stepped .answer) → ToldStep s bytes xs r after answer
+    → t ≡ stepNumber (stepped .served .answer) → r ≡ firstNumber (reading .outcome) t
+    → after ≡ recordBytes (stepped .next) → answer ≡ servedBytes (stepped .served) → ToldStep s bytes xs r after answer
 told-step {s = s} stepped e record-is is f h kept stored =
     record {
       stepped = stepped;
@@ -99,12 +99,12 @@ listed e f = rw e (rw f)
 -- ---- the stream of a plan found
 
 -- the output has room for it
-pub found-fits : (plan : Plan) (a : Finding) (owners : List ℕ)
+pub found-fits : (plan : Plan) (a : SearchAnswer) (owners : List ℕ)
     → SearchedAs (idlePlan (plan .f) (plan .n) (plan .clients)) a owners → a ≡ finding.Found
     → (plan .f ≤ 64) × (plan .n ≤ 8) × (length (streamOf (withTable plan owners)) ≤ longest)
 found-fits plan a owners is e =
     let idle = idlePlan (plan .f) (plan .n) (plan .clients) in
-    let ok = search-fine idle (subst (λ (x : Finding). SearchedAs idle x owners) e is .0) in
+    let ok = search-fine idle (subst (λ (x : SearchAnswer). SearchedAs idle x owners) e is .0) in
     let short = ok .short in
     let few = ok .few in
     let long = length-stream (withTable plan owners) in
@@ -124,10 +124,10 @@ nine-hold bytes long e = rw e (rw (part-run bytes 1 8 (omega arith)))
 
 -- a step's position and the client that it names fit into a byte, where the record's position does
 pub step-small : (plan : Plan) (arb : Arbiter) (xs : List ℕ) → arb .position < 256
-    → (stepOf plan arb xs .next .position < 256) × (clientServed (stepOf plan arb xs .answer .service) < 256)
+    → (stepOf plan arb xs .next .position < 256) × (clientServed (stepOf plan arb xs .served .answer) < 256)
 unfolding advanced
 step-small plan arb xs small =
-    either (λ (r : Stepped). (r .next .position < 256) × (clientServed (r .answer .service) < 256)) plan arb xs
+    either (λ (r : Stepped). (r .next .position < 256) × (clientServed (r .served .answer) < 256)) plan arb xs
     (λ number. (small, omega arith)) by
   where
     by : stepCheck plan (arb .position) (length xs) ≡ Fine

@@ -20,7 +20,7 @@ use Rattle.arbiter.specs.declared.Stepped.{Stepped}
 use Rattle.arbiter.specs.Step.{stepNumber}
 use Rattle.capi.specs.Calls.{figureNumbers, waitNumbers, judgedNumbers, verdictNumbers}
 use Rattle.capi.specs.Calls.{ToldRead, firstNumber, Told, ToldWrite, foundStream, ToldSearch, ToldStep}
-use Rattle.capi.specs.Calls.{recordBytes, answerBytes}
+use Rattle.capi.specs.Calls.{recordBytes, servedBytes}
 
 pub read-told-once : (s : List ℕ) {r r′ offset offset′ : ℕ} → ToldRead s r offset → ToldRead s r′ offset′
     → (r ≡ r′) × (offset ≡ offset′)
@@ -85,8 +85,8 @@ pub step-told-once : (s bytes xs : List ℕ) {r r′ : ℕ} {after after′ answ
     → (r ≡ r′) × (after ≡ after′) × (answer ≡ answer′)
 step-told-once s bytes xs h h′ =
     let e = h .is ∙ sym (h′ .is) in (
-      h .returned ∙ ap (λ (x : Stepped). firstNumber (readOf s .outcome) (stepNumber (x .answer .service))) e
+      h .returned ∙ ap (λ (x : Stepped). firstNumber (readOf s .outcome) (stepNumber (x .served .answer))) e
           ∙ sym (h′ .returned),
       h .kept ∙ ap (λ (x : Stepped). recordBytes (x .next)) e ∙ sym (h′ .kept),
-      h .stored ∙ ap (λ (x : Stepped). answerBytes (x .answer)) e ∙ sym (h′ .stored),
+      h .stored ∙ ap (λ (x : Stepped). servedBytes (x .served)) e ∙ sym (h′ .stored),
     )

@@ -19,20 +19,20 @@ use Rattle.plan.specs.Check.{requirementsCheck, planCheck, askedCheck}
 use Rattle.stream.specs.Read.{planIf, planOf, readOf}
 use Rattle.stream.specs.Trip.{copyCheck}
 use Rattle.stream.specs.Write.{writtenBy, writtenNumber, writtenSize, bytesBy}
-use Rattle.figures.specs.declared.Figures.{Figures}
-use Rattle.figures.specs.declared.Figures.the-variants as figures
-use Rattle.figures.specs.declared.Wait.{Wait}
-use Rattle.figures.specs.declared.Wait.the-variants as wait
+use Rattle.figures.specs.declared.FigureAnswer.{FigureAnswer}
+use Rattle.figures.specs.declared.FigureAnswer.the-variants as figures
+use Rattle.figures.specs.declared.WaitAnswer.{WaitAnswer}
+use Rattle.figures.specs.declared.WaitAnswer.the-variants as wait
 use Rattle.figures.specs.Check.{figureCheck, waitCheck}
 use Rattle.figures.specs.Figures.{figuresNumber, IsFigures, waitNumber, IsWaitFor}
-use Rattle.judge.specs.declared.Judged.{Judged}
-use Rattle.judge.specs.declared.Judged.the-variants as judged
-use Rattle.judge.specs.declared.Verdicts.{Verdicts}
-use Rattle.judge.specs.declared.Verdicts.the-variants as verdicts
+use Rattle.judge.specs.declared.JudgeAnswer.{JudgeAnswer}
+use Rattle.judge.specs.declared.JudgeAnswer.the-variants as judged
+use Rattle.judge.specs.declared.VerdictAnswer.{VerdictAnswer}
+use Rattle.judge.specs.declared.VerdictAnswer.the-variants as verdicts
 use Rattle.judge.specs.Judge.{judgedNumber, IsJudged, verdictNumber, IsVerdictOf}
 use Rattle.judge.proofs.Once.{judged-number, verdicts-number}
-use Rattle.search.specs.declared.Finding.{Finding}
-use Rattle.search.specs.declared.Finding.the-variants as finding
+use Rattle.search.specs.declared.SearchAnswer.{SearchAnswer}
+use Rattle.search.specs.declared.SearchAnswer.the-variants as finding
 use Rattle.search.specs.declared.Searched.{Searched}
 use Rattle.search.specs.Search.{idlePlan, searchCheck, searchedNumber}
 use Rattle.search.proofs.Once.{searched-number}
@@ -41,7 +41,7 @@ use Rattle.arbiter.specs.Step.{advanced, stepCheck, stepOf, stepNumber}
 use Rattle.arbiter.proofs.Slots.{step-number, either}
 use Rattle.capi.specs.Calls.{figureNumbers, waitNumbers, judgedNumbers, verdictNumbers, firstNumber, Told}
 use Rattle.capi.specs.Calls.{ToldWrite, IsSearchedFor, foundStream, ToldSearch}
-use Rattle.capi.specs.Calls.{recordIn, recordBytes, answerBytes, ToldStep}
+use Rattle.capi.specs.Calls.{recordIn, recordBytes, servedBytes, ToldStep}
 
 -- a refused read gives "a plan with every number 0"
 pub refused-plan : (s : List ℕ) (k offset : ℕ) → readOf s .outcome ≡ outcome.Refused k offset → readOf s .plan ≡ noPlan
@@ -66,7 +66,7 @@ module _ (s : List ℕ) (r : ℕ) (lent : List ℕ) (r> : 0 < r) where
       (told-number (λ plan. IsFigures plan c) figuresNumber (λ a is. omega (arith, is .number)) s (h .answer) r (h .is)
       (h .returned) r>)
     where
-      by : (a : Figures) → 0 < figuresNumber a → figureNumbers a ≡ 0 ∷ 0 ∷ []
+      by : (a : FigureAnswer) → 0 < figuresNumber a → figureNumbers a ≡ 0 ∷ 0 ∷ []
       by (figures.Given figure) a> = absurd (omega arith)
       by (figures.Refused number) a> = refl
 
@@ -77,7 +77,7 @@ module _ (s : List ℕ) (r : ℕ) (lent : List ℕ) (r> : 0 < r) where
       (told-number (λ plan. IsWaitFor plan c k) waitNumber (λ a is. omega (arith, is .number)) s (h .answer) r (h .is)
       (h .returned) r>)
     where
-      by : (a : Wait) → 0 < waitNumber a → waitNumbers a ≡ 0 ∷ []
+      by : (a : WaitAnswer) → 0 < waitNumber a → waitNumbers a ≡ 0 ∷ []
       by (wait.Given slots) a> = absurd (omega arith)
       by (wait.Refused number) a> = refl
 
@@ -86,10 +86,10 @@ module _ (s : List ℕ) (r : ℕ) (lent : List ℕ) (r> : 0 < r) where
   judge-zero h =
       h .stored ∙ by (h .answer) (told-number IsJudged judgedNumber none s (h .answer) r (h .is) (h .returned) r>)
     where
-      none : (a : Judged) → IsJudged noPlan a → 0 < judgedNumber a
+      none : (a : JudgeAnswer) → IsJudged noPlan a → 0 < judgedNumber a
       none a is = omega (arith, judged-number noPlan a is)
 
-      by : (a : Judged) → 0 < judgedNumber a → judgedNumbers a ≡ 0 ∷ 0 ∷ 0 ∷ 0 ∷ []
+      by : (a : JudgeAnswer) → 0 < judgedNumber a → judgedNumbers a ≡ 0 ∷ 0 ∷ 0 ∷ 0 ∷ []
       by (judged.Given found) a> = absurd (omega arith)
       by (judged.Refused number) a> = refl
 
@@ -100,7 +100,7 @@ module _ (s : List ℕ) (r : ℕ) (lent : List ℕ) (r> : 0 < r) where
       (told-number (λ plan. IsVerdictOf plan c) verdictNumber (λ a is. omega (arith, verdicts-number noPlan c a is)) s
       (h .answer) r (h .is) (h .returned) r>)
     where
-      by : (a : Verdicts) → 0 < verdictNumber a → verdictNumbers a ≡ 0 ∷ []
+      by : (a : VerdictAnswer) → 0 < verdictNumber a → verdictNumbers a ≡ 0 ∷ []
       by (verdicts.Given verdict) a> = absurd (omega arith)
       by (verdicts.Refused number) a> = refl
 
@@ -115,7 +115,7 @@ module _ (s out : List ℕ) (r size : ℕ) (now : List ℕ) (r> : 0 < r) where
       none : (a : Searched) → IsSearchedFor noPlan a → 0 < searchedNumber (a .answer)
       none a is = omega (arith, searched-number (idlePlan 0 0 (noPlan .clients)) (a .answer) (a .owners) is)
 
-      by : (a : Finding) → 0 < searchedNumber a
+      by : (a : SearchAnswer) → 0 < searchedNumber a
           → Put out 0 (foundStream (readOf s .plan) a (h .answer .owners)) now size → (size ≡ 0) × (now ≡ out)
       by finding.Found a> put = absurd (omega arith)
       by finding.None a> put = absurd (omega arith)
@@ -143,18 +143,18 @@ pub step-unchanged : (s bytes xs : List ℕ) (r : ℕ) (after answer : List ℕ)
 unfolding advanced stepCheck planCheck requirementsCheck rangeCheck
 step-unchanged s bytes xs r after answer long r> h =
     let number =
-    told-number (λ plan x. x ≡ stepOf plan (recordIn bytes) xs) (λ x. stepNumber (x .answer .service)) none s
+    told-number (λ plan x. x ≡ stepOf plan (recordIn bytes) xs) (λ x. stepNumber (x .served .answer)) none s
     (h .stepped) r (h .is) (h .returned) r> in
     let left = subst Left (sym (h .is)) kept number in
     (h .kept ∙ left .0, h .stored ∙ left .1)
   where
-    none : (x : Stepped) → x ≡ stepOf noPlan (recordIn bytes) xs → 0 < stepNumber (x .answer .service)
+    none : (x : Stepped) → x ≡ stepOf noPlan (recordIn bytes) xs → 0 < stepNumber (x .served .answer)
     none x e =
-        omega (arith, ap (λ (y : Stepped). stepNumber (y .answer .service)) e ∙ step-number noPlan (recordIn bytes) xs)
+        omega (arith, ap (λ (y : Stepped). stepNumber (y .served .answer)) e ∙ step-number noPlan (recordIn bytes) xs)
 
     Left : Stepped → Type 0
-    Left x = 0 < stepNumber (x .answer .service)
-        → (recordBytes (x .next) ≡ bytes) × (answerBytes (x .answer) ≡ replicate 9 0)
+    Left x = 0 < stepNumber (x .served .answer)
+        → (recordBytes (x .next) ≡ bytes) × (servedBytes (x .served) ≡ replicate 9 0)
 
     kept : Left (stepOf (readOf s .plan) (recordIn bytes) xs)
     kept =

@@ -15,23 +15,23 @@ use Rattle.plan.specs.Plan.{withTable}
 use Rattle.stream.specs.Read.{readOf}
 use Rattle.stream.specs.Trip.{Copied}
 use Rattle.stream.specs.Write.{streamOf, writtenNumber, writtenSize}
-use Rattle.stream.specs.declared.Written.{Written}
-use Rattle.figures.specs.declared.Figures.{Figures}
-use Rattle.figures.specs.declared.Wait.{Wait}
+use Rattle.stream.specs.declared.WriteAnswer.{WriteAnswer}
+use Rattle.figures.specs.declared.FigureAnswer.{FigureAnswer}
+use Rattle.figures.specs.declared.WaitAnswer.{WaitAnswer}
 use Rattle.figures.specs.Figures.{figureIn, waitIn}
 use Rattle.judge.specs.declared.Verdict.{Verdict}
 use Rattle.judge.specs.declared.Verdict.the-variants.{Ok, Rate, Late}
-use Rattle.judge.specs.declared.Judged.{Judged}
-use Rattle.judge.specs.declared.Judged.the-variants as judged
+use Rattle.judge.specs.declared.JudgeAnswer.{JudgeAnswer}
+use Rattle.judge.specs.declared.JudgeAnswer.the-variants as judged
 use Rattle.judge.specs.declared.Judgement.{Judgement}
-use Rattle.judge.specs.declared.Verdicts.{Verdicts}
-use Rattle.judge.specs.declared.Verdicts.the-variants as verdicts
+use Rattle.judge.specs.declared.VerdictAnswer.{VerdictAnswer}
+use Rattle.judge.specs.declared.VerdictAnswer.the-variants as verdicts
 use Rattle.judge.specs.Judge.{acceptance}
-use Rattle.search.specs.declared.Finding.{Finding}
-use Rattle.search.specs.declared.Finding.the-variants as finding
+use Rattle.search.specs.declared.SearchAnswer.{SearchAnswer}
+use Rattle.search.specs.declared.SearchAnswer.the-variants as finding
 use Rattle.search.specs.declared.Searched.{Searched}
 use Rattle.search.specs.Search.{idlePlan, IsSearched, searchedNumber}
-use Rattle.arbiter.specs.declared.Answer.{Answer}
+use Rattle.arbiter.specs.declared.Served.{Served}
 use Rattle.arbiter.specs.declared.Arbiter.{Arbiter}
 use Rattle.arbiter.specs.declared.Stepped.{Stepped}
 use Rattle.arbiter.specs.Step.{stepOf, stepNumber, clientServed}
@@ -39,11 +39,11 @@ use Rattle.arbiter.specs.Step.{stepOf, stepNumber, clientServed}
 -- ---- an answer's numbers, in the order in which they are stored
 
 -- m and L
-abbrev pub figureNumbers : Figures → List ℕ
+abbrev pub figureNumbers : FigureAnswer → List ℕ
 figureNumbers answer = figureIn answer .slots ∷ figureIn answer .scaled ∷ []
 
 -- the wait
-abbrev pub waitNumbers : Wait → List ℕ
+abbrev pub waitNumbers : WaitAnswer → List ℕ
 waitNumbers answer = waitIn answer ∷ []
 
 -- a verdict's number
@@ -53,23 +53,23 @@ verdictCode Rate = 1
 verdictCode Late = 2
 
 -- where judging stopped; a refusal has 0 for client, start and length, and `ok`, whose number is 0
-abbrev pub judgementIn : Judged → Judgement
+abbrev pub judgementIn : JudgeAnswer → Judgement
 judgementIn (judged.Given found) = found
 judgementIn (judged.Refused number) = acceptance
 
 -- client, verdict, start and length
-abbrev pub judgedNumbers : Judged → List ℕ
+abbrev pub judgedNumbers : JudgeAnswer → List ℕ
 judgedNumbers answer =
     judgementIn answer .client ∷ verdictCode (judgementIn answer .verdict) ∷ judgementIn answer .start
     ∷ judgementIn answer .length ∷ []
 
 -- the number of an answer's verdict, 0 in a refusal
-abbrev pub codeIn : Verdicts → ℕ
+abbrev pub codeIn : VerdictAnswer → ℕ
 codeIn (verdicts.Given verdict) = verdictCode verdict
 codeIn (verdicts.Refused number) = 0
 
 -- that number
-abbrev pub verdictNumbers : Verdicts → List ℕ
+abbrev pub verdictNumbers : VerdictAnswer → List ℕ
 verdictNumbers answer = codeIn answer ∷ []
 
 -- ---- what is told
@@ -95,7 +95,7 @@ pub record Told {A : Type 0} (Is : Plan → A → Type 0) (number : A → ℕ) (
 
 -- of a stream that is read and written back into out: its own bytes, and their number
 pub record ToldWrite (s out : List ℕ) (r size : ℕ) (now : List ℕ) : Type 0 where
-  pub answer : Written
+  pub answer : WriteAnswer
   pub is : Copied s out answer now
   pub returned : r ≡ writtenNumber answer
   pub stored : size ≡ writtenSize answer
@@ -107,7 +107,7 @@ abbrev pub IsSearchedFor : Plan → Searched → Type 0
 IsSearchedFor plan = IsSearched (idlePlan (plan .f) (plan .n) (plan .clients))
 
 -- the stream of the plan with the table found; no bytes where there is none, and in a refusal
-abbrev pub foundStream : Plan → Finding → List ℕ → List ℕ
+abbrev pub foundStream : Plan → SearchAnswer → List ℕ → List ℕ
 foundStream plan finding.Found owners = streamOf (withTable plan owners)
 foundStream plan finding.None owners = []
 foundStream plan (finding.Refused number) owners = []
@@ -130,13 +130,13 @@ abbrev pub recordBytes : Arbiter → List ℕ
 recordBytes arb = arb .position ∷ arb .pending
 
 -- "The result names the client served, or 0, and each client's turned-away count": in nine bytes
-abbrev pub answerBytes : Answer → List ℕ
-answerBytes answer = clientServed (answer .service) ∷ answer .turned
+abbrev pub servedBytes : Served → List ℕ
+servedBytes served = clientServed (served .answer) ∷ served .turned
 
 -- of a step with the record in these bytes and these arrivals: the record's and the answer's bytes after it
 pub record ToldStep (s bytes arrivals : List ℕ) (r : ℕ) (after answer : List ℕ) : Type 0 where
   pub stepped : Stepped
   pub is : stepped ≡ stepOf (readOf s .plan) (recordIn bytes) arrivals
-  pub returned : r ≡ firstNumber (readOf s .outcome) (stepNumber (stepped .answer .service))
+  pub returned : r ≡ firstNumber (readOf s .outcome) (stepNumber (stepped .served .answer))
   pub kept : after ≡ recordBytes (stepped .next)
-  pub stored : answer ≡ answerBytes (stepped .answer)
+  pub stored : answer ≡ servedBytes (stepped .served)

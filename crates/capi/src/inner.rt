@@ -1,21 +1,21 @@
 // Answers stored in lent numbers and bytes; the number returned is the refusal's, 0 where nothing is refused.
 use super::RECORD;
 use arbiter::Arbiter;
-use arbiter::Service;
+use arbiter::StepAnswer;
 use arbiter::Stepped;
-use figures::Figures;
-use figures::Wait;
-use judge::Judged;
+use figures::FigureAnswer;
+use figures::WaitAnswer;
+use judge::JudgeAnswer;
 use judge::Verdict;
-use judge::Verdicts;
+use judge::VerdictAnswer;
 use plan::Plan;
 use plan::with_table;
 use records::Outcome;
 use records::wide;
-use search::Finding;
+use search::SearchAnswer;
 use search::Searched;
 use stream::LONGEST;
-use stream::Written;
+use stream::WriteAnswer;
 use stream::writer::put_stream;
 ghost use mathlib.Core.Path.{_≡_};
 ghost use mathlib.Core.List.{_∷_};
@@ -28,7 +28,7 @@ ghost use Rattle.judge.specs.Judge.{judgedNumber, verdictNumber};
 ghost use Rattle.search.specs.Search.{searchedNumber};
 ghost use Rattle.arbiter.specs.Step.{stepNumber, clientServed};
 ghost use Rattle.capi.specs.Calls.{firstNumber, verdictCode, judgementIn, codeIn, IsSearchedFor, foundStream};
-ghost use Rattle.capi.specs.Calls.{recordIn, recordBytes, answerBytes};
+ghost use Rattle.capi.specs.Calls.{recordIn, recordBytes, servedBytes};
 
 // Reading's refusal, else an answer's own number.
 pub fn first_number(outcome: Outcome, number: usize) -> usize
@@ -57,17 +57,17 @@ pub fn tell_outcome(outcome: Outcome, offset: &mut usize) -> usize
 }
 
 // Figures.
-pub fn tell_figures(answer: Figures, slots: &mut usize, scaled: &mut usize) -> usize
+pub fn tell_figures(answer: FigureAnswer, slots: &mut usize, scaled: &mut usize) -> usize
     ensures { λ r. ⌜ (r ≡ figuresNumber answer) × (now (slots .exit) ≡ figureIn answer .slots)
         × (now (scaled .exit) ≡ figureIn answer .scaled) ⌝ }
 {
     match answer {
-        Figures::Given(figure) => {
+        FigureAnswer::Given(figure) => {
             *slots = figure.slots;
             *scaled = figure.scaled;
             0
         },
-        Figures::Refused(number) => {
+        FigureAnswer::Refused(number) => {
             *slots = 0;
             *scaled = 0;
             wide(number)
@@ -76,15 +76,15 @@ pub fn tell_figures(answer: Figures, slots: &mut usize, scaled: &mut usize) -> u
 }
 
 // A wait.
-pub fn tell_wait(answer: Wait, wait: &mut usize) -> usize
+pub fn tell_wait(answer: WaitAnswer, wait: &mut usize) -> usize
     ensures { λ r. ⌜ (r ≡ waitNumber answer) × (now (wait .exit) ≡ waitIn answer) ⌝ }
 {
     match answer {
-        Wait::Given(slots) => {
+        WaitAnswer::Given(slots) => {
             *wait = slots;
             0
         },
-        Wait::Refused(number) => {
+        WaitAnswer::Refused(number) => {
             *wait = 0;
             wide(number)
         },
@@ -104,7 +104,7 @@ fn code_of(verdict: Verdict) -> usize
 
 // Where judging stopped.
 pub fn tell_judged(
-    answer: Judged,
+    answer: JudgeAnswer,
     client: &mut usize,
     verdict: &mut usize,
     start: &mut usize,
@@ -115,7 +115,7 @@ pub fn tell_judged(
         × (now (start .exit) ≡ judgementIn answer .start) × (now (length .exit) ≡ judgementIn answer .length) ⌝ }
 {
     match answer {
-        Judged::Given(found) => {
+        JudgeAnswer::Given(found) => {
             let found_verdict = found.verdict;
             *client = found.client;
             *verdict = code_of(found_verdict);
@@ -123,7 +123,7 @@ pub fn tell_judged(
             *length = found.length;
             0
         },
-        Judged::Refused(number) => {
+        JudgeAnswer::Refused(number) => {
             *client = 0;
             *verdict = 0;
             *start = 0;
@@ -134,15 +134,15 @@ pub fn tell_judged(
 }
 
 // A verdict.
-pub fn tell_verdict(answer: Verdicts, verdict: &mut usize) -> usize
+pub fn tell_verdict(answer: VerdictAnswer, verdict: &mut usize) -> usize
     ensures { λ r. ⌜ (r ≡ verdictNumber answer) × (now (verdict .exit) ≡ codeIn answer) ⌝ }
 {
     match answer {
-        Verdicts::Given(given) => {
+        VerdictAnswer::Given(given) => {
             *verdict = code_of(given);
             0
         },
-        Verdicts::Refused(number) => {
+        VerdictAnswer::Refused(number) => {
             *verdict = 0;
             wide(number)
         },
@@ -150,15 +150,15 @@ pub fn tell_verdict(answer: Verdicts, verdict: &mut usize) -> usize
 }
 
 // A length written.
-pub fn tell_written(answer: Written, length: &mut usize) -> usize
+pub fn tell_written(answer: WriteAnswer, length: &mut usize) -> usize
     ensures { λ r. ⌜ (r ≡ writtenNumber answer) × (now (length .exit) ≡ writtenSize answer) ⌝ }
 {
     match answer {
-        Written::Bytes(size) => {
+        WriteAnswer::Given(size) => {
             *length = size;
             0
         },
-        Written::Refused(number) => {
+        WriteAnswer::Refused(number) => {
             *length = 0;
             wide(number)
         },
@@ -180,16 +180,16 @@ pub fn tell_searched(
     let answer = searched.answer;
     let owners = searched.owners;
     match answer {
-        Finding::Found => {
+        SearchAnswer::Found => {
             let found = with_table(plan, owners);
             *length = put_stream(out, found);
             0
         },
-        Finding::None => {
+        SearchAnswer::None => {
             *length = 0;
             0
         },
-        Finding::Refused(number) => {
+        SearchAnswer::Refused(number) => {
             *length = 0;
             wide(number)
         },
@@ -233,23 +233,23 @@ fn put_nine(out: &mut [u8; RECORD], first: u8, rest: [u8; 8])
 }
 
 // The client that a step names, 0 in a refusal, in a byte.
-fn served_of(service: Service) -> u8
-    requires { ⌜ clientServed service < 256 ⌝ }
-    ensures { λ r. ⌜ r ≡ clientServed service ⌝ }
+fn served_of(answer: StepAnswer) -> u8
+    requires { ⌜ clientServed answer < 256 ⌝ }
+    ensures { λ r. ⌜ r ≡ clientServed answer ⌝ }
 {
-    match service {
-        Service::Given(client) => client as u8,
-        Service::Refused(_) => 0,
+    match answer {
+        StepAnswer::Given(client) => client as u8,
+        StepAnswer::Refused(_) => 0,
     }
 }
 
 // The refusal's number of a step.
-fn number_of(service: Service) -> usize
-    ensures { λ r. ⌜ r ≡ stepNumber service ⌝ }
+fn number_of(answer: StepAnswer) -> usize
+    ensures { λ r. ⌜ r ≡ stepNumber answer ⌝ }
 {
-    match service {
-        Service::Given(_) => 0,
-        Service::Refused(number) => wide(number),
+    match answer {
+        StepAnswer::Given(_) => 0,
+        StepAnswer::Refused(number) => wide(number),
     }
 }
 
@@ -259,16 +259,16 @@ pub fn tell_stepped(
     arbiter: &mut [u8; RECORD],
     answer: &mut [u8; RECORD],
 ) -> usize
-    requires { ⌜ (stepped .next .position < 256) × (clientServed (stepped .answer .service) < 256) ⌝ }
-    ensures { λ r. ⌜ (r ≡ stepNumber (stepped .answer .service))
-        × (now (arbiter .exit) ≡ recordBytes (stepped .next)) × (now (answer .exit) ≡ answerBytes (stepped .answer)) ⌝ }
+    requires { ⌜ (stepped .next .position < 256) × (clientServed (stepped .served .answer) < 256) ⌝ }
+    ensures { λ r. ⌜ (r ≡ stepNumber (stepped .served .answer))
+        × (now (arbiter .exit) ≡ recordBytes (stepped .next)) × (now (answer .exit) ≡ servedBytes (stepped .served)) ⌝ }
 {
     let next = stepped.next;
     let pending = next.pending;
-    let said = stepped.answer;
-    let service = said.service;
-    let turned = said.turned;
+    let served = stepped.served;
+    let said = served.answer;
+    let turned = served.turned;
     put_nine(arbiter, next.position as u8, pending);
-    put_nine(answer, served_of(service), turned);
-    number_of(service)
+    put_nine(answer, served_of(said), turned);
+    number_of(said)
 }

@@ -7,7 +7,7 @@ pub mod inner; // inner.rt
 use inner::first_number;
 use plan::Plan;
 use records::Outcome;
-use search::Finding;
+use search::SearchAnswer;
 use search::Searched;
 use search::inner::check_search;
 use stream::LONGEST;
@@ -121,7 +121,7 @@ pub extern "C" fn gwelathur_search(s: &[u8], out: &mut [u8; LONGEST], length: &m
     let checked = check_search(plan);
     if let Outcome::Refused(number, _) = checked {
         let refused = Searched {
-            answer: Finding::Refused(number),
+            answer: SearchAnswer::Refused(number),
             owners: [0u8; 64],
         };
         return first_number(outcome, inner::tell_searched(plan, refused, out, length));

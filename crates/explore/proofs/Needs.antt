@@ -18,7 +18,7 @@ use lib.Seq.{append-snoc}
 use Rattle.records.specs.First.{pick}
 use Rattle.records.proofs.Checks.{one-or-none, last-or-below}
 use Rattle.explore.specs.Best.{owned}
-use Rattle.explore.specs.Needs.{childOf, nodeFrom, nodeOf, needAt, needOf, Fits, Sound}
+use Rattle.explore.specs.Needs.{childOf, nodeFrom, nodeOf, needAt, needOf, NoneInNeed, Sound}
 
 -- ---- nodes
 
@@ -95,10 +95,10 @@ each-none trees (suc n) p z i l =
     (λ (m : i < n). each-none trees n p (omega arith) i m)
     (last-or-below i n l)
 
-pub none-fits : (trees : List ℕ) (n : ℕ) (p : List ℕ) → needAfter trees n p ≡ 0 → Fits trees n p
+pub none-fits : (trees : List ℕ) (n : ℕ) (p : List ℕ) → needAfter trees n p ≡ 0 → NoneInNeed trees n p
 none-fits trees n p z = record { each = each-none trees n p z }
 
-fits-none : (trees : List ℕ) (n m : ℕ) (p : List ℕ) → m ≤ n → Fits trees n p → needAfter trees m p ≡ 0
+fits-none : (trees : List ℕ) (n m : ℕ) (p : List ℕ) → m ≤ n → NoneInNeed trees n p → needAfter trees m p ≡ 0
 unfolding needOf
 fits-none trees n zero p l fits = refl
 fits-none trees n (suc m) p l fits = omega (arith, fits-none trees n m p (omega arith) fits, fits .each m (omega arith))
@@ -147,7 +147,8 @@ module _ (trees : List ℕ) (g n : ℕ) (sound : Sound trees g n) where
       let here = client-more i x (eqb owner (i + 1)) (omega arith) (node-pos (i + 1) p) (node-below (i + 1) p g l) in
       rw (node-more (i + 1) p owner) (omega (arith, clients-more p owner i l (omega arith)))
 
-  pub need-least : (v p : List ℕ) → length p + length v ≡ g → Fits trees n (p ++ v) → needAfter trees n p ≤ owned v
+  pub need-least : (v p : List ℕ) → length p + length v ≡ g → NoneInNeed trees n (p ++ v)
+      → needAfter trees n p ≤ owned v
   unfolding owned
   need-least [] p e fits = omega (arith, fits-none trees n n p (omega arith) (rw append-nil at fits))
   need-least (owner ∷ v) p e fits =

@@ -11,7 +11,7 @@ use lib.ListN.{length, getD, take, length-append}
 use Rattle.explore.specs.declared.Best.{Best}
 use Rattle.explore.specs.declared.Front.{Front}
 use Rattle.explore.specs.Best.{Table, owned, BestOf}
-use Rattle.explore.specs.Needs.{needOf, Fits, Sound}
+use Rattle.explore.specs.Needs.{needOf, NoneInNeed, Sound}
 use Rattle.explore.specs.Seen.{ownersOf, IsFront, Before, UpTo, Kept, Seen, Holds, Explored}
 use Rattle.explore.proofs.Needs.{none-fits, need-least}
 use Rattle.explore.proofs.Order.{before-or-begins, before-up-to, before-least, begins-least, up-to-itself}
@@ -112,7 +112,7 @@ module _ (P : List ℕ → Type 0) (g n : ℕ) where
 module _ (trees : List ℕ) (g n : ℕ) (front : Front) (is : IsFront n front) (best : Best) (more : ℕ)
     (need : more ≡ needOf trees (λ i. getD (front .nodes) i 0) n) where
   -- a filling that begins with the front has room for what its clients need, and gives as many places more
-  filling-least : Sound trees g n → (u v : List ℕ) → u ≡ ownersOf front ++ v → Table g n u → Fits trees n u
+  filling-least : Sound trees g n → (u v : List ℕ) → u ≡ ownersOf front ++ v → Table g n u → NoneInNeed trees n u
       → (front .long + more ≤ g) × (front .given + more ≤ owned u)
   filling-least sound u v e table fits =
       let p = ownersOf front in
@@ -127,7 +127,7 @@ module _ (trees : List ℕ) (g n : ℕ) (front : Front) (is : IsFront n front) (
   explored-left why =
       record {
         on = λ sound.
-            seen-left (Fits trees n) g n (ownersOf front) (best .found) (take g (best .owners)) (best .given)
+            seen-left (NoneInNeed trees n) g n (ownersOf front) (best .found) (take g (best .owners)) (best .given)
             (λ u v e table fits.
             let least = filling-least sound u v e table fits in
             ⊎-elim
@@ -146,7 +146,7 @@ module _ (trees : List ℕ) (g n : ℕ) (front : Front) (is : IsFront n front) (
       record {
         on = λ sound s.
             rw (here, is .given)
-            (seen-taken (Fits trees n) g n p (best .found) (take g (best .owners)) (best .given)
+            (seen-taken (NoneInNeed trees n) g n p (best .found) (take g (best .owners)) (best .given)
             table fits (omega arith) s);
       }
 
@@ -154,14 +154,14 @@ module _ (trees : List ℕ) (g n : ℕ) (front : Front) (is : IsFront n front) (
 
 -- from one best to the next, the fillings were seen that begin with p and then with an owner below this one
 pub record Partly (trees : List ℕ) (g n : ℕ) (p : List ℕ) (owner : ℕ) (from to : Best) : Type 0 where
-  pub on : Sound trees g n → Holds (Fits trees n) g n (Before p) from
-      → Holds (Fits trees n) g n (Before (p ++ (owner ∷ []))) to
+  pub on : Sound trees g n → Holds (NoneInNeed trees n) g n (Before p) from
+      → Holds (NoneInNeed trees n) g n (Before (p ++ (owner ∷ []))) to
 
 module _ (trees : List ℕ) (g n : ℕ) (front : Front) (is : IsFront n front) (from : Best) where
   pub partly-none : front .long ≤ g → Partly trees g n (ownersOf front) 0 from from
   partly-none l =
       let first = before-first g n (ownersOf front) (omega (arith, is .table .long)) in
-      record { on = λ sound. holds-same (Fits trees n) g n _ _ first from }
+      record { on = λ sound. holds-same (NoneInNeed trees n) g n _ _ first from }
 
   pub partly-more : (best to : Best) (owner : ℕ) (q : List ℕ) → front .long ≤ g → q ≡ ownersOf front ++ (owner ∷ [])
       → Partly trees g n (ownersOf front) owner from best → Explored trees g n q best to
@@ -169,19 +169,19 @@ module _ (trees : List ℕ) (g n : ℕ) (front : Front) (is : IsFront n front) (
   partly-more best to owner q l e so more =
       let next = up-to-next g n (ownersOf front) owner (omega (arith, is .table .long)) in
       let walk = rw e at more in
-      record { on = λ sound s. holds-same (Fits trees n) g n _ _ next to (walk .on sound (so .on sound s)) }
+      record { on = λ sound s. holds-same (NoneInNeed trees n) g n _ _ next to (walk .on sound (so .on sound s)) }
 
   pub partly-all : (to : Best) → front .long < g → Partly trees g n (ownersOf front) (n + 1) from to
       → Explored trees g n (ownersOf front) from to
   partly-all to l so =
       let last = before-last g n (ownersOf front) (omega (arith, is .table .long)) in
-      record { on = λ sound s. holds-same (Fits trees n) g n _ _ last to (so .on sound s) }
+      record { on = λ sound s. holds-same (NoneInNeed trees n) g n _ _ last to (so .on sound s) }
 
 -- ---- the whole walk
 
 pub explored-all : (trees : List ℕ) (g n : ℕ) (none : List ℕ) (to : Best) → Sound trees g n
     → Explored trees g n [] (record { found = false; owners = none; given = g + 1 }) to
-    → BestOf (Fits trees n) g n (to .found) (take g (to .owners))
+    → BestOf (NoneInNeed trees n) g n (to .found) (take g (to .owners))
 explored-all trees g n none to sound walk =
-    seen-all (Fits trees n) g n (to .found) (take g (to .owners)) (to .given)
+    seen-all (NoneInNeed trees n) g n (to .found) (take g (to .owners)) (to .given)
     (walk .on sound (record { count = refl; none = λ u table q good. q }))

@@ -31,7 +31,7 @@ needOf trees node zero = 0
 needOf trees node (suc i) = needOf trees node i + needAt trees i (node i)
 
 -- a filling leaves none of the first n clients in need
-pub record Fits (trees : List ℕ) (n : ℕ) (owners : List ℕ) : Type 0 where
+pub record NoneInNeed (trees : List ℕ) (n : ℕ) (owners : List ℕ) : Type 0 where
   pub each : (i : ℕ) → i < n → needAt trees i (nodeOf (i + 1) owners) ≡ 0
 
 -- no node above the leaves says more than a node below it allows, which is one more where the place is the client's

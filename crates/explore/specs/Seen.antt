@@ -9,7 +9,7 @@ use lib.ListN.{getD, take}
 use Rattle.explore.specs.declared.Best.{Best}
 use Rattle.explore.specs.declared.Front.{Front}
 use Rattle.explore.specs.Best.{Table, owned, LexLe}
-use Rattle.explore.specs.Needs.{nodeOf, Fits, Sound}
+use Rattle.explore.specs.Needs.{nodeOf, NoneInNeed, Sound}
 
 -- the owners of a front, the first places of a filling
 abbrev pub ownersOf : Front → List ℕ
@@ -64,4 +64,4 @@ module _ (P : List ℕ → Type 0) (g n : ℕ) (Q : List ℕ → Type 0) where
 
 -- from one best to the next, all fillings that begin with the front p were seen
 pub record Explored (trees : List ℕ) (g n : ℕ) (p : List ℕ) (from to : Best) : Type 0 where
-  pub on : Sound trees g n → Holds (Fits trees n) g n (Before p) from → Holds (Fits trees n) g n (UpTo p) to
+  pub on : Sound trees g n → Holds (NoneInNeed trees n) g n (Before p) from → Holds (NoneInNeed trees n) g n (UpTo p) to

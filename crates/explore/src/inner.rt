@@ -10,7 +10,7 @@ ghost use lib.Dec.{eqb};
 ghost use lib.ListN.{getD, take};
 ghost use Rattle.records.specs.First.{pick};
 ghost use Rattle.explore.specs.Best.{BestOf};
-ghost use Rattle.explore.specs.Needs.{childOf, needOf, Fits, Sound};
+ghost use Rattle.explore.specs.Needs.{childOf, needOf, NoneInNeed, Sound};
 ghost use Rattle.explore.specs.Seen.{ownersOf, IsFront, Explored};
 
 // The node of a client below this one, the next place being the owner's.
@@ -116,7 +116,7 @@ fn explore(trees: &[u8; 4096], g: usize, n: usize, front: Front, best: Best) -> 
 // The best filling of g places by n clients: whether there is one, and its owners, in the first g places.
 pub fn best_filling(trees: &[u8; 4096], g: usize, n: usize) -> Best
     requires { ⌜ (g ≤ 8) × (n ≤ 8) × Sound (now trees) g n ⌝ }
-    ensures { λ r. ⌜ BestOf (Fits (now (trees .entry)) n) g n (r .found) (take g (r .owners)) ⌝ }
+    ensures { λ r. ⌜ BestOf (NoneInNeed (now (trees .entry)) n) g n (r .found) (take g (r .owners)) ⌝ }
 {
     let none = [0u8; 8];
     let front = Front {

@@ -15,8 +15,8 @@ use Rattle.records.proofs.Refusals.{numbered-fine}
 use Rattle.plan.specs.declared.Plan.{Plan}
 use Rattle.plan.specs.Plan.{ownOf}
 use Rattle.figures.specs.declared.Figure.{Figure}
-use Rattle.figures.specs.declared.Figures.the-variants as figures
-use Rattle.figures.specs.declared.Wait.the-variants as wait
+use Rattle.figures.specs.declared.FigureAnswer.the-variants as figures
+use Rattle.figures.specs.declared.WaitAnswer.the-variants as wait
 use Rattle.figures.specs.Check.{figureCheck, waitingCheck, waitCheck}
 use Rattle.figures.specs.Figures.{IsFigure, IsFigures, Waits, IsWaitFor}
 use Rattle.figures.proofs.Laws.{frame-of, count-small}

@@ -6,10 +6,10 @@ use Prim.Native.Nat.{ℕ, _≤_}
 use Rattle.frame.proofs.Scaled.{scaled-one, wait-one, wait-grows}
 use Rattle.plan.specs.declared.Plan.{Plan}
 use Rattle.figures.specs.declared.Figure.{Figure}
-use Rattle.figures.specs.declared.Figures.{Figures}
-use Rattle.figures.specs.declared.Figures.the-variants as figures
-use Rattle.figures.specs.declared.Wait.{Wait}
-use Rattle.figures.specs.declared.Wait.the-variants as wait
+use Rattle.figures.specs.declared.FigureAnswer.{FigureAnswer}
+use Rattle.figures.specs.declared.FigureAnswer.the-variants as figures
+use Rattle.figures.specs.declared.WaitAnswer.{WaitAnswer}
+use Rattle.figures.specs.declared.WaitAnswer.the-variants as wait
 use Rattle.figures.specs.Figures.{IsFigure, IsFigures, IsWaitFor}
 use Rattle.figures.proofs.Answers.{given-fine, refused-not-fine, wait-given-fine, wait-refused-not-fine}
 use Rattle.figures.proofs.Answers.{given-waits}
@@ -23,7 +23,7 @@ figure-one a b is is′ =
     figure-alike _ _ _ _ (is .slots ∙ sym (is′ .slots)) (scaled-one (is .scaled) (is′ .scaled))
 
 module _ (plan : Plan) (c : ℕ) where
-  pub figures-once : (r r′ : Figures) → IsFigures plan c r → IsFigures plan c r′ → r ≡ r′
+  pub figures-once : (r r′ : FigureAnswer) → IsFigures plan c r → IsFigures plan c r′ → r ≡ r′
   figures-once (figures.Given a) (figures.Given b) is is′ =
       let fine = given-fine plan c a is in
       ap figures.Given (figure-one a b (is .figure fine) (is′ .figure fine))
@@ -33,7 +33,7 @@ module _ (plan : Plan) (c : ℕ) where
       absurd (refused-not-fine plan c i is (given-fine plan c b is′))
   figures-once (figures.Refused i) (figures.Refused j) is is′ = ap figures.Refused (is .number ∙ sym (is′ .number))
 
-  pub waits-once : (k : ℕ) (r r′ : Wait) → IsWaitFor plan c k r → IsWaitFor plan c k r′ → r ≡ r′
+  pub waits-once : (k : ℕ) (r r′ : WaitAnswer) → IsWaitFor plan c k r → IsWaitFor plan c k r′ → r ≡ r′
   waits-once k (wait.Given a) (wait.Given b) is is′ =
       let fine = wait-given-fine plan c k a is in
       let x = is .wait fine in

@@ -10,8 +10,8 @@ use Rattle.frame.specs.Frame.{slotsOf}
 use Rattle.records.specs.Refusal as refusal
 use Rattle.records.specs.First.{Numbered}
 use Rattle.records.specs.declared.Outcome.the-variants as outcome
-use Rattle.records.proofs.Checks.{both-fine, need-fine, range-fine, range-pass}
-use Rattle.records.proofs.Refusals.{or-each, need-numbered, range-numbered}
+use Rattle.records.proofs.Checks.{both-fine, unless-fine, range-fine, range-pass}
+use Rattle.records.proofs.Refusals.{or-each, unless-numbered, range-numbered}
 use Rattle.plan.specs.declared.Plan.{Plan}
 use Rattle.plan.specs.Plan.{ownOf}
 use Rattle.plan.specs.Check.{askedCheck}
@@ -33,7 +33,7 @@ pub figure-numbered : (most : ℕ) → refusal.noSlot ≤ most → (plan : Plan)
 unfolding figureCheck
 figure-numbered most h plan c =
     or-each (Numbered most) (askedCheck plan c) (ownsCheck plan c) (asked-numbered most (omega arith) plan c)
-    (need-numbered most (leb 1 (slotsOf (ownOf plan c) (plan .f))) refusal.noSlot 0 (omega arith) h)
+    (unless-numbered most (leb 1 (slotsOf (ownOf plan c) (plan .f))) refusal.noSlot 0 (omega arith) h)
 
 -- what a plan and a client have that pass
 pub record Asked (plan : Plan) (c : ℕ) : Type 0 where
@@ -47,7 +47,7 @@ unfolding figureCheck
 figure-fine plan c h =
     let a = both-fine (askedCheck plan c) (ownsCheck plan c) h in
     let asked = asked-fine plan c (a .0) in
-    let owns = leb-true 1 (slotsOf (ownOf plan c) (plan .f)) (need-fine _ refusal.noSlot 0 (a .1)) in
+    let owns = leb-true 1 (slotsOf (ownOf plan c) (plan .f)) (unless-fine _ refusal.noSlot 0 (a .1)) in
     record { checked = asked .0; low = asked .1; high = asked .2; owns = owns }
 
 pub figure-pass : (plan : Plan) (c : ℕ) → Asked plan c → figureCheck plan c ≡ outcome.Fine

@@ -10,8 +10,8 @@ use Rattle.plan.specs.declared.Plan.{Plan}
 use Rattle.plan.specs.Plan.{ownOf, Same}
 use Rattle.plan.specs.Check.{askedCheck}
 use Rattle.plan.proofs.Laws.{asked-fine, same-asked, own-same}
-use Rattle.figures.specs.declared.Figures.{Figures}
-use Rattle.figures.specs.declared.Wait.{Wait}
+use Rattle.figures.specs.declared.FigureAnswer.{FigureAnswer}
+use Rattle.figures.specs.declared.WaitAnswer.{WaitAnswer}
 use Rattle.figures.specs.Check.{ownsCheck, figureCheck, waitCheck}
 use Rattle.figures.specs.Figures.{IsFigure, figureIn, IsFigures, Waits, waitIn, IsWaitFor}
 use Rattle.figures.proofs.Questions.{figure-fine}
@@ -43,14 +43,14 @@ module _ (plan other : Plan) (same : Same plan other) (c : ℕ) where
       let own = slots-same (figure-fine plan c fine .checked .bounds .f-low) in
       rw (own, same .frame) at (holds fine)
 
-  pub figures-same : (r : Figures) → IsFigures plan c r → IsFigures other c r
+  pub figures-same : (r : FigureAnswer) → IsFigures plan c r → IsFigures other c r
   figures-same r is =
       record {
         number = is .number ∙ ap numberOf figure-check-same;
         figure = λ h. carried (λ own f. IsFigure own f (figureIn r)) h (is .figure);
       }
 
-  pub waits-same : (k : ℕ) (r : Wait) → IsWaitFor plan c k r → IsWaitFor other c k r
+  pub waits-same : (k : ℕ) (r : WaitAnswer) → IsWaitFor plan c k r → IsWaitFor other c k r
   unfolding waitCheck
   waits-same k r is =
       record {

@@ -4,7 +4,7 @@ use Prim.Native.Nat.{ℕ}
 use lib.Dec.{leb}
 use Rattle.frame.specs.Frame.{slotsOf}
 use Rattle.records.specs.Refusal as refusal
-use Rattle.records.specs.First.{need, rangeCheck, orElse}
+use Rattle.records.specs.First.{unless, rangeCheck, orElse}
 use Rattle.records.specs.declared.Outcome.{Outcome}
 use Rattle.plan.specs.declared.Plan.{Plan}
 use Rattle.plan.specs.Plan.{ownOf}
@@ -12,7 +12,7 @@ use Rattle.plan.specs.Check.{askedCheck}
 
 -- 14: that client owns no slot
 abbrev pub ownsCheck : Plan → ℕ → Outcome
-ownsCheck plan c = need (leb 1 (slotsOf (ownOf plan c) (plan .f))) refusal.noSlot 0
+ownsCheck plan c = unless (leb 1 (slotsOf (ownOf plan c) (plan .f))) refusal.noSlot 0
 
 -- figures: the plan's checks, 13, then 14
 unfoldable pub figureCheck : Plan → ℕ → Outcome

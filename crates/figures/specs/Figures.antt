@@ -7,10 +7,10 @@ use Rattle.records.specs.declared.Outcome.the-variants.{Fine}
 use Rattle.plan.specs.declared.Plan.{Plan}
 use Rattle.plan.specs.Plan.{ownOf}
 use Rattle.figures.specs.declared.Figure.{Figure}
-use Rattle.figures.specs.declared.Figures.{Figures}
-use Rattle.figures.specs.declared.Figures.the-variants as figures
-use Rattle.figures.specs.declared.Wait.{Wait}
-use Rattle.figures.specs.declared.Wait.the-variants as wait
+use Rattle.figures.specs.declared.FigureAnswer.{FigureAnswer}
+use Rattle.figures.specs.declared.FigureAnswer.the-variants as figures
+use Rattle.figures.specs.declared.WaitAnswer.{WaitAnswer}
+use Rattle.figures.specs.declared.WaitAnswer.the-variants as wait
 use Rattle.figures.specs.Check.{figureCheck, waitCheck}
 
 -- ---- figures
@@ -21,7 +21,7 @@ pub record IsFigure (own : ℕ → ℕ) (f : ℕ) (figure : Figure) : Type 0 whe
   pub scaled : IsScaled own f (slotsOf own f) (figure .scaled)
 
 -- an answer's number, 0 where nothing is refused
-abbrev pub figuresNumber : Figures → ℕ
+abbrev pub figuresNumber : FigureAnswer → ℕ
 figuresNumber (figures.Given figure) = 0
 figuresNumber (figures.Refused number) = number
 
@@ -30,12 +30,12 @@ abbrev pub noFigure : Figure
 noFigure = record { slots = 0; scaled = 0 }
 
 -- an answer's values: "A refusal .. returns its number with all other results 0"
-abbrev pub figureIn : Figures → Figure
+abbrev pub figureIn : FigureAnswer → Figure
 figureIn (figures.Given figure) = figure
 figureIn (figures.Refused number) = noFigure
 
 -- what an answer about client c is; where nothing is refused m is above 0, so that it is not a refusal
-pub record IsFigures (plan : Plan) (c : ℕ) (r : Figures) : Type 0 where
+pub record IsFigures (plan : Plan) (c : ℕ) (r : FigureAnswer) : Type 0 where
   pub number : figuresNumber r ≡ numberOf (figureCheck plan c)
   pub figure : figureCheck plan c ≡ Fine → IsFigure (ownOf plan c) (plan .f) (figureIn r)
 
@@ -48,16 +48,16 @@ pub record Waits (own : ℕ → ℕ) (f k wait : ℕ) : Type 0 where
   pub least : IsWait f (slotsOf own f) L k wait
 
 -- an answer's number, 0 where nothing is refused
-abbrev pub waitNumber : Wait → ℕ
+abbrev pub waitNumber : WaitAnswer → ℕ
 waitNumber (wait.Given slots) = 0
 waitNumber (wait.Refused number) = number
 
 -- an answer's value, 0 in a refusal
-abbrev pub waitIn : Wait → ℕ
+abbrev pub waitIn : WaitAnswer → ℕ
 waitIn (wait.Given slots) = slots
 waitIn (wait.Refused number) = 0
 
 -- what an answer about client c and k waiting requests is; where nothing is refused the wait is above 0, too
-pub record IsWaitFor (plan : Plan) (c k : ℕ) (r : Wait) : Type 0 where
+pub record IsWaitFor (plan : Plan) (c k : ℕ) (r : WaitAnswer) : Type 0 where
   pub number : waitNumber r ≡ numberOf (waitCheck plan c k)
   pub wait : waitCheck plan c k ≡ Fine → Waits (ownOf plan c) (plan .f) k (waitIn r)

@@ -1,8 +1,8 @@
 // The figures of a plan that is checked: f is 1 to 64.
 use super::Figure;
-use super::Figures;
+use super::FigureAnswer;
 use super::MOST_WAITING;
-use super::Wait;
+use super::WaitAnswer;
 use frame::inner::next;
 use plan::Plan;
 use records::Outcome;
@@ -109,19 +109,19 @@ pub fn figure(plan: Plan, client: usize, m: usize) -> Figure
 }
 
 // The figure of a client that can be asked about, or 14.
-pub fn figures_of(plan: Plan, client: usize) -> Figures
+pub fn figures_of(plan: Plan, client: usize) -> FigureAnswer
     requires { ⌜ askedCheck plan client ≡ Fine ⌝ }
     ensures { λ r. ⌜ IsFigures plan client r ⌝ }
 {
     let m = slots(plan, client);
     if m < 1 {
-        return Figures::Refused(refusal::NO_SLOT);
+        return FigureAnswer::Refused(refusal::NO_SLOT);
     }
-    Figures::Given(figure(plan, client, m))
+    FigureAnswer::Given(figure(plan, client, m))
 }
 
 // The wait for this many requests, from a client's figure: rounded up.
-pub fn wait_of(f: usize, figure: Figure, waiting: usize) -> usize
+pub fn least_wait(f: usize, figure: Figure, waiting: usize) -> usize
     requires { ⌜ (f ≤ 64) × (1 ≤ figure .slots) × (figure .slots ≤ 64) ⌝ }
     requires { ⌜ (figure .scaled ≤ 1024) × (waiting ≤ mostWaiting) ⌝ }
     ensures { λ r. ⌜ IsWait f (figure .slots) (figure .scaled) waiting r ⌝ }
@@ -132,18 +132,18 @@ pub fn wait_of(f: usize, figure: Figure, waiting: usize) -> usize
 }
 
 // The wait of a client for this many requests, from its figures: their refusal, then 15.
-pub fn wait_from(plan: Plan, client: usize, figures: Figures, waiting: usize) -> Wait
+pub fn wait_from(plan: Plan, client: usize, figures: FigureAnswer, waiting: usize) -> WaitAnswer
     requires { ⌜ IsFigures plan client figures ⌝ }
     ensures { λ r. ⌜ IsWaitFor plan client waiting r ⌝ }
 {
     match figures {
-        Figures::Refused(number) => Wait::Refused(number),
-        Figures::Given(figure) => {
+        FigureAnswer::Refused(number) => WaitAnswer::Refused(number),
+        FigureAnswer::Given(figure) => {
             let asked = check_range(waiting, MOST_WAITING, refusal::WAITING);
             if let Outcome::Refused(number, offset) = asked {
-                return Wait::Refused(number);
+                return WaitAnswer::Refused(number);
             }
-            Wait::Given(wait_of(plan.f, figure, waiting))
+            WaitAnswer::Given(least_wait(plan.f, figure, waiting))
         }
     }
 }

@@ -14,13 +14,13 @@ pub struct Figure {
 }
 
 // A client's figure, or the refusal's number.
-pub enum Figures {
+pub enum FigureAnswer {
     Given(Figure),
     Refused(u8),
 }
 
 // A wait in slots, or the refusal's number.
-pub enum Wait {
+pub enum WaitAnswer {
     Given(usize),
     Refused(u8),
 }
@@ -29,18 +29,18 @@ pub enum Wait {
 pub const MOST_WAITING: usize = 255;
 
 // The figure of a client: the plan's refusals, then 13 and 14.
-pub fn figure_of(plan: Plan, client: usize) -> Figures
+pub fn figure_of(plan: Plan, client: usize) -> FigureAnswer
     ensures { λ r. ⌜ IsFigures plan client r ⌝ }
 {
     let asked = plan::check_asked(plan, client);
     if let Outcome::Refused(number, offset) = asked {
-        return Figures::Refused(number);
+        return FigureAnswer::Refused(number);
     }
     inner::figures_of(plan, client)
 }
 
 // The wait of a client for this many waiting requests: the figure's refusals, then 15.
-pub fn wait_for(plan: Plan, client: usize, waiting: usize) -> Wait
+pub fn wait_for(plan: Plan, client: usize, waiting: usize) -> WaitAnswer
     ensures { λ r. ⌜ IsWaitFor plan client waiting r ⌝ }
 {
     let figures = figure_of(plan, client);
@@ -48,7 +48,7 @@ pub fn wait_for(plan: Plan, client: usize, waiting: usize) -> Wait
 }
 
 // The wait of a client, asked without a number.
-pub fn default_wait(plan: Plan, client: usize) -> Wait
+pub fn default_wait(plan: Plan, client: usize) -> WaitAnswer
     ensures { λ r. ⌜ IsWaitFor plan client defaultWaiting r ⌝ }
 {
     wait_for(plan, client, Plan::DEFAULT_WAITING)

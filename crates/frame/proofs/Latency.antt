@@ -129,7 +129,7 @@ module _ (rule : Rule) {own : ℕ → ℕ} {f m : ℕ} (frame : Frame own f m) w
   -- no smaller latency will do, not even if only the periods count that start with an empty queue
   pub latency-least-empty : {L : ℕ} → Lawful rule → f ≤ 64 → IsScaled own f m L → (x y : ℕ)
       → SatisfiesEmpty rule own f m x y → L * y ≤ x * m
-  latency-least-empty {L} law f≤ scaled x y sat = by (r .long) (r .long<) (r .there)
+  latency-least-empty {L} law f≤ scaled x y sat = by (r .length) (r .length<) (r .there)
     where
       r : Short own f m L
       r = below-reached frame (scaled .reached)

@@ -65,10 +65,11 @@ module _ {own : ℕ → ℕ} {f m L : ℕ} (frame : Frame own f m) (scaled : IsS
   pub scaled-most : L ≤ m * (f - m)
   scaled-most =
       let r = below-reached frame (scaled .reached) in
-      let x : (d : ℕ) × (r .long + d ≡ f) = le-dest (omega (arith, r .long<)) in
-      let rest = within-rest frame (r .start) (r .long) (x .0) (x .1) in
-      let few = within-most own (frame .most) (r .start + r .long) (x .0) in
-      most-by f m (f - m) L (r .long) (within own (r .start) (r .long)) (x .0) (x .1) (omega (arith, slots-most frame))
+      let x : (d : ℕ) × (r .length + d ≡ f) = le-dest (omega (arith, r .length<)) in
+      let rest = within-rest frame (r .start) (r .length) (x .0) (x .1) in
+      let few = within-most own (frame .most) (r .start + r .length) (x .0) in
+      most-by f m (f - m) L (r .length) (within own (r .start) (r .length)) (x .0) (x .1)
+      (omega (arith, slots-most frame))
       (omega (arith, rest, few)) (r .there)
 
   -- source 000, Equation (4): the latency L/m of consecutive slots is f − m

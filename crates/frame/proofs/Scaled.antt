@@ -16,10 +16,10 @@ use Rattle.frame.proofs.Within.{within-split}
 -- a stretch that starts below f, is shorter than f and reaches L
 pub record Short (own : ℕ → ℕ) (f m L : ℕ) : Type 0 where
   pub start : ℕ
-  pub long : ℕ
+  pub length : ℕ
   pub start< : start < f
-  pub long< : long < f
-  pub there : m * long ≡ L + f * within own start long
+  pub length< : length < f
+  pub there : m * length ≡ L + f * within own start length
 
 module _ {own : ℕ → ℕ} {f m : ℕ} (frame : Frame own f m) where
   pub below-suffice : {L : ℕ} → ((s j : ℕ) → s < f → j < f → m * j ≤ L + f * within own s j) → Bounded own f m L
@@ -33,11 +33,11 @@ module _ {own : ℕ → ℕ} {f m : ℕ} (frame : Frame own f m) where
   pub below-reached : {L : ℕ} → Reached own f m L → Short own f m L
   below-reached {L} r =
       record {
-        start = (r .start + r .long / f * f) % f;
-        long = r .long % f;
-        start< = mod-lt (r .start + r .long / f * f) (frame .f>);
-        long< = mod-lt (r .long) (frame .f>);
-        there = by (r .long) (r .long / f) (r .long % f) (div-add-mod' (r .long) f) (r .there);
+        start = (r .start + r .length / f * f) % f;
+        length = r .length % f;
+        start< = mod-lt (r .start + r .length / f * f) (frame .f>);
+        length< = mod-lt (r .length) (frame .f>);
+        there = by (r .length) (r .length / f) (r .length % f) (div-add-mod' (r .length) f) (r .there);
       }
     where
       by : (j n k : ℕ) → n * f + k ≡ j → m * j ≡ L + f * within own (r .start) j
@@ -52,7 +52,9 @@ pub scaled-one : {own : ℕ → ℕ} {f m L L′ : ℕ} → IsScaled own f m L �
 scaled-one a b =
     let x = a .reached in
     let y = b .reached in
-    omega (arith, a .bounded .bound (y .start) (y .long), y .there, b .bounded .bound (x .start) (x .long), x .there)
+    let a-bound = a .bounded .bound (y .start) (y .length) in
+    let b-bound = b .bounded .bound (x .start) (x .length) in
+    omega (arith, a-bound, y .there, b-bound, x .there)
 
 -- ---- the largest of some numbers
 
@@ -107,8 +109,8 @@ module _ {own : ℕ → ℕ} {f m : ℕ} (frame : Frame own f m) where
       by (yes l) =
           let s = largest-reached f (lackFrom own f m) l in
           let j = lack-reached own f m (s .0) (omega (arith, s .2)) in
-          record { start = s .0; long = j .0; there = omega (arith, s .2, j .1) }
-      by (no l) = record { start = 0; long = 0; there = omega arith }
+          record { start = s .0; length = j .0; there = omega (arith, s .2, j .1) }
+      by (no l) = record { start = 0; length = 0; there = omega arith }
 
   pub scaled-is : IsScaled own f m (scaledOf own f m)
   scaled-is = record { bounded = scaled-bounded; reached = scaled-reached }

@@ -30,8 +30,8 @@ pub record Bounded (own : ℕ → ℕ) (f m L : ℕ) : Type 0 where
 -- some stretch has m × j − f × w(s, j) equal to L
 pub record Reached (own : ℕ → ℕ) (f m L : ℕ) : Type 0 where
   pub start : ℕ
-  pub long : ℕ
-  pub there : m * long ≡ L + f * within own start long
+  pub length : ℕ
+  pub there : m * length ≡ L + f * within own start length
 
 -- "Its scaled latency L is the largest m × j − f × w(s, j) over all s and all j ≥ 0"
 pub record IsScaled (own : ℕ → ℕ) (f m L : ℕ) : Type 0 where

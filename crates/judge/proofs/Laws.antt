@@ -131,8 +131,8 @@ module _ (x : Client) (own : ℕ → ℕ) (f L : ℕ) (scaled : IsScaled own f (
   pub scaled-by-in-time : ((s j : ℕ) → inTime x own f s j ≡ true) → L * x .b ≤ x .a * slotsOf own f
   scaled-by-in-time h =
       let r = scaled .reached in
-      let w = within own (r .start) (r .long) in
-      let there = covers-true x f (slotsOf own f) (r .long) w (h (r .start) (r .long)) in
+      let w = within own (r .start) (r .length) in
+      let there = covers-true x f (slotsOf own f) (r .length) w (h (r .start) (r .length)) in
       omega (arith, there, ap (λ (k : ℕ). k * x .b) (r .there))
 
 -- ---- what a test found, said of the client

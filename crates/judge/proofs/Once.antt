@@ -15,10 +15,10 @@ use Rattle.plan.specs.Check.{planCheck, askedCheck}
 use Rattle.judge.specs.declared.Verdict.{Verdict}
 use Rattle.judge.specs.declared.Verdict.the-variants.{Ok, Rate, Late}
 use Rattle.judge.specs.declared.Judgement.{Judgement}
-use Rattle.judge.specs.declared.Judged.{Judged}
-use Rattle.judge.specs.declared.Judged.the-variants as judged
-use Rattle.judge.specs.declared.Verdicts.{Verdicts}
-use Rattle.judge.specs.declared.Verdicts.the-variants as verdicts
+use Rattle.judge.specs.declared.JudgeAnswer.{JudgeAnswer}
+use Rattle.judge.specs.declared.JudgeAnswer.the-variants as judged
+use Rattle.judge.specs.declared.VerdictAnswer.{VerdictAnswer}
+use Rattle.judge.specs.declared.VerdictAnswer.the-variants as verdicts
 use Rattle.judge.specs.Rules.{hasRate, IsOk, IsLate, IsVerdict}
 use Rattle.judge.specs.Judge.{ClientOk, AllOk, First, JudgedAs, IsJudged, judgedNumber, IsVerdictOf}
 use Rattle.judge.specs.Judge.{verdictNumber}
@@ -145,11 +145,11 @@ judgement-alike : (v v′ : Verdict) (c c′ s s′ j j′ : ℕ) → (v ≡ v�
     (record { client = c′; verdict = v′; start = s′; length = j′ })
 judgement-alike v v′ c c′ s s′ j j′ e = rw (e .0, e .1, e .2, e .3)
 
-pub judged-number : (plan : Plan) (r : Judged) → IsJudged plan r → judgedNumber r ≡ numberOf (planCheck plan)
+pub judged-number : (plan : Plan) (r : JudgeAnswer) → IsJudged plan r → judgedNumber r ≡ numberOf (planCheck plan)
 judged-number plan (judged.Given found) is = sym (ap numberOf (is .0))
 judged-number plan (judged.Refused k) is = refused-number (planCheck plan) k is
 
-pub judged-once : (plan : Plan) (r r′ : Judged) → IsJudged plan r → IsJudged plan r′ → r ≡ r′
+pub judged-once : (plan : Plan) (r r′ : JudgeAnswer) → IsJudged plan r → IsJudged plan r′ → r ≡ r′
 judged-once plan (judged.Given a) (judged.Given b) is is′ =
     ap judged.Given (judgement-alike _ _ _ _ _ _ _ _
     (judgement-one plan 0 (plan .n) (a .verdict) (b .verdict) _ _ _ _ _ _ (is .1) (is′ .1)))
@@ -158,12 +158,12 @@ judged-once plan (judged.Refused k) (judged.Given b) is is′ = refused-fine (pl
 judged-once plan (judged.Refused k) (judged.Refused k′) is is′ =
     ap judged.Refused (refused-number (planCheck plan) k is ∙ sym (refused-number (planCheck plan) k′ is′))
 
-pub verdicts-number : (plan : Plan) (c : ℕ) (r : Verdicts) → IsVerdictOf plan c r
+pub verdicts-number : (plan : Plan) (c : ℕ) (r : VerdictAnswer) → IsVerdictOf plan c r
     → verdictNumber r ≡ numberOf (askedCheck plan c)
 verdicts-number plan c (verdicts.Given verdict) is = sym (ap numberOf (is .0))
 verdicts-number plan c (verdicts.Refused k) is = refused-number (askedCheck plan c) k is
 
-pub verdicts-once : (plan : Plan) (c : ℕ) (r r′ : Verdicts) → IsVerdictOf plan c r → IsVerdictOf plan c r′ → r ≡ r′
+pub verdicts-once : (plan : Plan) (c : ℕ) (r r′ : VerdictAnswer) → IsVerdictOf plan c r → IsVerdictOf plan c r′ → r ≡ r′
 verdicts-once plan c (verdicts.Given a) (verdicts.Given b) is is′ =
     ap verdicts.Given (verdict-one _ _ _ a b (is .1) (is′ .1))
 verdicts-once plan c (verdicts.Given a) (verdicts.Refused k) is is′ = refused-fine (askedCheck plan c) k is′ (is .0)

@@ -10,10 +10,10 @@ use Rattle.plan.specs.Plan.{clientOf, ownOf, Same}
 use Rattle.plan.proofs.Laws.{plan-fine, asked-fine, same-check, same-asked, own-same}
 use Rattle.judge.specs.declared.Verdict.{Verdict}
 use Rattle.judge.specs.declared.Verdict.the-variants.{Ok, Rate, Late}
-use Rattle.judge.specs.declared.Judged.{Judged}
-use Rattle.judge.specs.declared.Judged.the-variants as judged
-use Rattle.judge.specs.declared.Verdicts.{Verdicts}
-use Rattle.judge.specs.declared.Verdicts.the-variants as verdicts
+use Rattle.judge.specs.declared.JudgeAnswer.{JudgeAnswer}
+use Rattle.judge.specs.declared.JudgeAnswer.the-variants as judged
+use Rattle.judge.specs.declared.VerdictAnswer.{VerdictAnswer}
+use Rattle.judge.specs.declared.VerdictAnswer.the-variants as verdicts
 use Rattle.judge.specs.Rules.{hasRate, IsOk, IsLate, IsVerdict}
 use Rattle.judge.specs.Judge.{AllOk, First, JudgedAs, IsJudged, IsVerdictOf}
 
@@ -47,7 +47,7 @@ module _ (plan other : Plan) (same : Same plan other) (f> : 0 < plan .f) where
       (failure-same from to c l (λ x own f. hasRate x own f ≡ false) (h .0), h .1, h .2)
   judgement-same from to l Late c s j h = failure-same from to c l (λ x own f. IsLate x own f s j) h
 
-pub verdicts-same : (plan other : Plan) → Same plan other → (c : ℕ) (r : Verdicts) → IsVerdictOf plan c r
+pub verdicts-same : (plan other : Plan) → Same plan other → (c : ℕ) (r : VerdictAnswer) → IsVerdictOf plan c r
     → IsVerdictOf other c r
 verdicts-same plan other same c (verdicts.Given verdict) is =
     let asked = asked-fine plan c (is .0) in
@@ -59,7 +59,7 @@ verdicts-same plan other same c (verdicts.Given verdict) is =
     (sym (same-asked plan other same c) ∙ is .0, rw place at there)
 verdicts-same plan other same c (verdicts.Refused k) is = rw (same-asked plan other same c) at is
 
-pub judged-same : (plan other : Plan) → Same plan other → (r : Judged) → IsJudged plan r → IsJudged other r
+pub judged-same : (plan other : Plan) → Same plan other → (r : JudgeAnswer) → IsJudged plan r → IsJudged other r
 judged-same plan other same (judged.Given found) is =
     let f> = plan-fine plan (is .0) .bounds .f-low in
     let there = judgement-same plan other same f> 0 (plan .n) (omega arith) (found .verdict) _ _ _ (is .1) in

@@ -11,10 +11,10 @@ use Rattle.plan.specs.Check.{planCheck, askedCheck}
 use Rattle.judge.specs.declared.Verdict.{Verdict}
 use Rattle.judge.specs.declared.Verdict.the-variants.{Ok, Rate, Late}
 use Rattle.judge.specs.declared.Judgement.{Judgement}
-use Rattle.judge.specs.declared.Judged.{Judged}
-use Rattle.judge.specs.declared.Judged.the-variants as judged
-use Rattle.judge.specs.declared.Verdicts.{Verdicts}
-use Rattle.judge.specs.declared.Verdicts.the-variants as verdicts
+use Rattle.judge.specs.declared.JudgeAnswer.{JudgeAnswer}
+use Rattle.judge.specs.declared.JudgeAnswer.the-variants as judged
+use Rattle.judge.specs.declared.VerdictAnswer.{VerdictAnswer}
+use Rattle.judge.specs.declared.VerdictAnswer.the-variants as verdicts
 use Rattle.judge.specs.Rules.{hasRate, IsOk, IsLate, IsVerdict}
 
 -- ---- a plan
@@ -58,39 +58,39 @@ abbrev pub acceptance : Judgement
 acceptance = record { client = 0; verdict = Ok; start = 0; length = 0 }
 
 -- what judging a plan answers
-abbrev pub IsJudged : Plan → Judged → Type 0
+abbrev pub IsJudged : Plan → JudgeAnswer → Type 0
 IsJudged plan (judged.Given found) = (planCheck plan ≡ Fine) × IsJudgement plan 0 (plan .n) found
 IsJudged plan (judged.Refused number) = RefusedBy (planCheck plan) number
 
 -- an answer's number, 0 where nothing is refused
-abbrev pub judgedNumber : Judged → ℕ
+abbrev pub judgedNumber : JudgeAnswer → ℕ
 judgedNumber (judged.Given found) = 0
 judgedNumber (judged.Refused number) = number
 
 -- an answer's client, start and length: "A refusal .. returns its number with all other results 0"
-abbrev pub judgedValues : Judged → List ℕ
+abbrev pub judgedValues : JudgeAnswer → List ℕ
 judgedValues (judged.Given found) = found .client ∷ found .start ∷ found .length ∷ []
 judgedValues (judged.Refused number) = 0 ∷ 0 ∷ 0 ∷ []
 
 -- and its verdict: a refusal has none
-abbrev pub judgedVerdict : Judged → List Verdict
+abbrev pub judgedVerdict : JudgeAnswer → List Verdict
 judgedVerdict (judged.Given found) = found .verdict ∷ []
 judgedVerdict (judged.Refused number) = []
 
 -- ---- one client
 
 -- what is answered of client c: the plan's checks, 13, then its verdict; a client without slots has one, too
-abbrev pub IsVerdictOf : Plan → ℕ → Verdicts → Type 0
+abbrev pub IsVerdictOf : Plan → ℕ → VerdictAnswer → Type 0
 IsVerdictOf plan c (verdicts.Given verdict) =
     (askedCheck plan c ≡ Fine) × IsVerdict (clientOf plan (c - 1)) (ownOf plan c) (plan .f) verdict
 IsVerdictOf plan c (verdicts.Refused number) = RefusedBy (askedCheck plan c) number
 
 -- an answer's number, 0 where nothing is refused
-abbrev pub verdictNumber : Verdicts → ℕ
+abbrev pub verdictNumber : VerdictAnswer → ℕ
 verdictNumber (verdicts.Given verdict) = 0
 verdictNumber (verdicts.Refused number) = number
 
 -- an answer's verdict: a refusal has none
-abbrev pub verdictIn : Verdicts → List Verdict
+abbrev pub verdictIn : VerdictAnswer → List Verdict
 verdictIn (verdicts.Given verdict) = verdict ∷ []
 verdictIn (verdicts.Refused number) = []

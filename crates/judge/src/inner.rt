@@ -93,7 +93,7 @@ pub fn first_failure(plan: Plan, from: usize, to: usize) -> Judgement
 }
 
 // Where judging clients group by group stops: in the first group, else in the second.
-pub fn first_of(first: Judgement, second: Judgement) -> Judgement
+pub fn earlier(first: Judgement, second: Judgement) -> Judgement
     ensures { λ r. ⌜ ((plan : Plan) (from mid to : ℕ) → from ≤ mid → mid ≤ to → IsJudgement plan from mid first
         → IsJudgement plan mid to second → IsJudgement plan from to r) ⌝ }
 {

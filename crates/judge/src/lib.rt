@@ -23,35 +23,35 @@ pub struct Judgement {
 }
 
 // Where judging a plan stopped, or the refusal's number.
-pub enum Judged {
+pub enum JudgeAnswer {
     Given(Judgement),
     Refused(u8),
 }
 
 // A client's verdict, or the refusal's number.
-pub enum Verdicts {
+pub enum VerdictAnswer {
     Given(Verdict),
     Refused(u8),
 }
 
 // Judges a plan: the plan's refusals, then its clients one by one.
-pub fn judge(plan: Plan) -> Judged
+pub fn judge(plan: Plan) -> JudgeAnswer
     ensures { λ r. ⌜ IsJudged plan r ⌝ }
 {
     let checked = plan::check(plan);
     if let Outcome::Refused(number, offset) = checked {
-        return Judged::Refused(number);
+        return JudgeAnswer::Refused(number);
     }
-    Judged::Given(inner::first_failure(plan, 0, plan.n))
+    JudgeAnswer::Given(inner::first_failure(plan, 0, plan.n))
 }
 
 // The verdict of one client: the plan's refusals, then 13.
-pub fn verdict_of(plan: Plan, client: usize) -> Verdicts
+pub fn verdict_of(plan: Plan, client: usize) -> VerdictAnswer
     ensures { λ r. ⌜ IsVerdictOf plan client r ⌝ }
 {
     let asked = check_asked(plan, client);
     if let Outcome::Refused(number, offset) = asked {
-        return Verdicts::Refused(number);
+        return VerdictAnswer::Refused(number);
     }
-    Verdicts::Given(inner::verdict(plan, client))
+    VerdictAnswer::Given(inner::verdict(plan, client))
 }

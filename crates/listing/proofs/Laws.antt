@@ -13,12 +13,12 @@ use Rattle.plan.proofs.Laws.{plan-fine, asked-pass}
 use Rattle.text.specs.Text.{bytes, refusalLine, Lines, Puts}
 use Rattle.stream.specs.declared.Reading.{Reading}
 use Rattle.stream.specs.Read.{readOf}
-use Rattle.figures.specs.declared.Wait.{Wait}
+use Rattle.figures.specs.declared.WaitAnswer.{WaitAnswer}
 use Rattle.figures.specs.Figures.{IsWaitFor}
 use Rattle.judge.specs.declared.Verdict.{Verdict}
 use Rattle.judge.specs.declared.Verdict.the-variants.{Ok, Rate, Late}
 use Rattle.judge.specs.declared.Judgement.{Judgement}
-use Rattle.judge.specs.declared.Verdicts.the-variants as verdicts
+use Rattle.judge.specs.declared.VerdictAnswer.the-variants as verdicts
 use Rattle.judge.specs.Judge.{IsJudgement, IsVerdictOf}
 use Rattle.judge.proofs.Laws.{verdict-by}
 use Rattle.listing.specs.declared.Line.{Line}
@@ -68,7 +68,7 @@ module _ {out now : List ℕ} {at r : ℕ} (plan : Plan) where
         put = put;
       }
 
-  pub homing-line-put : (i : ℕ) (wait : Wait) → IsWaitFor plan (i + 1) homingWaiting wait
+  pub homing-line-put : (i : ℕ) (wait : WaitAnswer) → IsWaitFor plan (i + 1) homingWaiting wait
       → Put out at (homingLine (i + 1) wait) now r → Puts (IsHomingLine plan i) out at now r
   homing-line-put i wait is put =
       record { text = homingLine (i + 1) wait; is = record { wait = wait; is = is; whole = refl }; put = put }

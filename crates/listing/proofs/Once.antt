@@ -10,8 +10,8 @@ use Rattle.plan.specs.declared.Plan.{Plan}
 use Rattle.plan.specs.Plan.{defaultWaiting}
 use Rattle.text.proofs.Laws.{lines-once}
 use Rattle.stream.specs.Read.{readOf}
-use Rattle.figures.specs.declared.Figures.{Figures}
-use Rattle.figures.specs.declared.Wait.{Wait}
+use Rattle.figures.specs.declared.FigureAnswer.{FigureAnswer}
+use Rattle.figures.specs.declared.WaitAnswer.{WaitAnswer}
 use Rattle.figures.proofs.Once.{figures-once, waits-once}
 use Rattle.judge.specs.declared.Verdict.{Verdict}
 use Rattle.judge.proofs.Once.{verdict-one, judgement-one}
@@ -19,7 +19,7 @@ use Rattle.listing.specs.declared.Line.{Line}
 use Rattle.listing.specs.Listing.{lineText, homingWaiting, homingLine, IsLine, IsReportLine, IsClosing}
 use Rattle.listing.specs.Listing.{IsReportOf, IsHomingLine, IsHomingOf, OrRefusal, IsReport, IsHoming}
 
-line-alike : (c c′ : ℕ) (g g′ : Figures) (w w′ : Wait) (v v′ : Verdict) → c ≡ c′ → g ≡ g′
+line-alike : (c c′ : ℕ) (g g′ : FigureAnswer) (w w′ : WaitAnswer) (v v′ : Verdict) → c ≡ c′ → g ≡ g′
     → w ≡ w′ → v ≡ v′ → _≡_ {A = Line} (record { client = c; figures = g; wait = w; verdict = v })
     (record { client = c′; figures = g′; wait = w′; verdict = v′ })
 line-alike c c′ g g′ w w′ v v′ e f h k = rw (e, f, h, k)

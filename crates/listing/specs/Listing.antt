@@ -9,16 +9,16 @@ use Rattle.plan.specs.declared.Plan.{Plan}
 use Rattle.plan.specs.Plan.{defaultWaiting}
 use Rattle.text.specs.Text.{bytes, decimalOf, refusalLine, Lines}
 use Rattle.stream.specs.Read.{readOf}
-use Rattle.figures.specs.declared.Figures.{Figures}
-use Rattle.figures.specs.declared.Figures.the-variants as figures
-use Rattle.figures.specs.declared.Wait.{Wait}
-use Rattle.figures.specs.declared.Wait.the-variants as wait
+use Rattle.figures.specs.declared.FigureAnswer.{FigureAnswer}
+use Rattle.figures.specs.declared.FigureAnswer.the-variants as figures
+use Rattle.figures.specs.declared.WaitAnswer.{WaitAnswer}
+use Rattle.figures.specs.declared.WaitAnswer.the-variants as wait
 use Rattle.figures.specs.Figures.{IsFigures, IsWaitFor}
 use Rattle.judge.specs.declared.Verdict.{Verdict}
 use Rattle.judge.specs.declared.Verdict.the-variants.{Ok, Rate, Late}
-use Rattle.judge.specs.declared.Verdicts.the-variants as verdicts
+use Rattle.judge.specs.declared.VerdictAnswer.the-variants as verdicts
 use Rattle.judge.specs.declared.Judgement.{Judgement}
-use Rattle.judge.specs.declared.Judged.the-variants as judged
+use Rattle.judge.specs.declared.JudgeAnswer.the-variants as judged
 use Rattle.judge.specs.Judge.{IsJudged, IsVerdictOf}
 use Rattle.listing.specs.declared.Line.{Line}
 
@@ -26,12 +26,12 @@ use Rattle.listing.specs.declared.Line.{Line}
 
 -- m and L; "A client without slots has `-` for L and wait", and its m is 0: a client of a plan that was read has no
 -- other refusal
-unfoldable pub figuresText : Figures → List ℕ
+unfoldable pub figuresText : FigureAnswer → List ℕ
 figuresText (figures.Given figure) = decimalOf (figure .slots) ++ bytes " " ++ decimalOf (figure .scaled)
 figuresText (figures.Refused number) = bytes "0 -"
 
 -- the default wait, or `-`
-unfoldable pub waitText : Wait → List ℕ
+unfoldable pub waitText : WaitAnswer → List ℕ
 waitText (wait.Given slots) = decimalOf slots
 waitText (wait.Refused number) = bytes "-"
 
@@ -97,12 +97,12 @@ abbrev pub homingWaiting : ℕ
 homingWaiting = defaultWaiting
 
 -- "only number and default wait .. with `-` as above"
-unfoldable pub homingLine : ℕ → Wait → List ℕ
+unfoldable pub homingLine : ℕ → WaitAnswer → List ℕ
 homingLine c wait = decimalOf c ++ bytes " " ++ waitText wait ++ bytes "\n"
 
 -- the line of client i + 1
 pub record IsHomingLine (plan : Plan) (i : ℕ) (text : List ℕ) : Type 0 where
-  pub wait : Wait
+  pub wait : WaitAnswer
   pub is : IsWaitFor plan (i + 1) homingWaiting wait
   pub whole : text ≡ homingLine (i + 1) wait
 

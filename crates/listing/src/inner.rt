@@ -3,15 +3,15 @@
 // number takes up to 20 bytes, a verdict up to 4.
 use super::Line;
 use super::Listed;
-use figures::Figures;
-use figures::Wait;
+use figures::FigureAnswer;
+use figures::WaitAnswer;
 use figures::inner::figures_of;
 use figures::inner::wait_from;
 use judge::Judgement;
 use judge::Verdict;
 use judge::inner::acceptance;
 use judge::inner::first_failure;
-use judge::inner::first_of;
+use judge::inner::earlier;
 use plan::Plan;
 use text::PAGE;
 use text::inner::put;
@@ -23,36 +23,36 @@ ghost use Rattle.records.specs.declared.Outcome.the-variants.{Fine};
 ghost use Rattle.plan.specs.Check.{planCheck, askedCheck};
 ghost use Rattle.text.specs.Text.{Lines, Puts, Room, Lendable};
 ghost use Rattle.figures.specs.Figures.{IsWaitFor};
-ghost use Rattle.judge.specs.declared.Verdicts.the-variants.{Given};
+ghost use Rattle.judge.specs.declared.VerdictAnswer.the-variants.{Given};
 ghost use Rattle.judge.specs.Judge.{IsJudgement, IsVerdictOf};
 ghost use Rattle.listing.specs.Listing.{figuresText, waitText, verdictText, lineText, refusedText, closingText};
 ghost use Rattle.listing.specs.Listing.{homingLine, homingWaiting, IsLine, IsReportLine, IsReportOf, IsHomingOf};
 
 // A client's m and L: two numbers and a space.
-fn put_figures(out: &mut [u8; PAGE], at: usize, figures: Figures) -> usize
+fn put_figures(out: &mut [u8; PAGE], at: usize, figures: FigureAnswer) -> usize
     requires { ⌜ Room at 41 ⌝ }
     ensures { λ r. ⌜ Put (now (out .entry)) at (figuresText figures) (now (out .exit)) r ⌝ }
     ensures { λ r. ⌜ r ≤ at + 41 ⌝ }
 {
     match figures {
-        Figures::Given(figure) => {
+        FigureAnswer::Given(figure) => {
             let at = put_decimal(out, at, figure.slots);
             let at = put(out, at, b" ");
             put_decimal(out, at, figure.scaled)
         },
-        Figures::Refused(number) => put(out, at, b"0 -"),
+        FigureAnswer::Refused(number) => put(out, at, b"0 -"),
     }
 }
 
 // A client's wait.
-fn put_wait(out: &mut [u8; PAGE], at: usize, wait: Wait) -> usize
+fn put_wait(out: &mut [u8; PAGE], at: usize, wait: WaitAnswer) -> usize
     requires { ⌜ Room at 20 ⌝ }
     ensures { λ r. ⌜ Put (now (out .entry)) at (waitText wait) (now (out .exit)) r ⌝ }
     ensures { λ r. ⌜ r ≤ at + 20 ⌝ }
 {
     match wait {
-        Wait::Given(slots) => put_decimal(out, at, slots),
-        Wait::Refused(number) => put(out, at, b"-"),
+        WaitAnswer::Given(slots) => put_decimal(out, at, slots),
+        WaitAnswer::Refused(number) => put(out, at, b"-"),
     }
 }
 
@@ -120,7 +120,7 @@ fn put_lines(out: &mut [u8; PAGE], at: usize, plan: Plan) -> Listed
         let verdict = judged.verdict;
         let line = line_of(plan, i + 1, verdict);
         next = put_line(out, next, line);
-        found = first_of(found, judged);
+        found = earlier(found, judged);
         i += 1;
     }
     Listed {
@@ -168,7 +168,7 @@ pub fn put_report(out: &mut [u8; PAGE], plan: Plan) -> usize
 }
 
 // The wait that the homing listing shows of a client.
-fn homing_wait(plan: Plan, client: usize) -> Wait
+fn homing_wait(plan: Plan, client: usize) -> WaitAnswer
     requires { ⌜ askedCheck plan client ≡ Fine ⌝ }
     ensures { λ r. ⌜ IsWaitFor plan client homingWaiting r ⌝ }
 {
@@ -177,7 +177,7 @@ fn homing_wait(plan: Plan, client: usize) -> Wait
 }
 
 // A line of the homing listing: two numbers, a space and the line feed.
-fn put_homing_line(out: &mut [u8; PAGE], at: usize, client: usize, wait: Wait) -> usize
+fn put_homing_line(out: &mut [u8; PAGE], at: usize, client: usize, wait: WaitAnswer) -> usize
     requires { ⌜ Room at 42 ⌝ }
     ensures { λ r. ⌜ Put (now (out .entry)) at (homingLine client wait) (now (out .exit)) r ⌝ }
     ensures { λ r. ⌜ r ≤ at + 42 ⌝ }

@@ -2,8 +2,8 @@
 // refused its one line. `inner` has the texts and their lines, for a plan that is checked.
 pub mod inner; // inner.rt
 
-use figures::Figures;
-use figures::Wait;
+use figures::FigureAnswer;
+use figures::WaitAnswer;
 use judge::Judgement;
 use judge::Verdict;
 use records::Outcome;
@@ -14,8 +14,8 @@ ghost use Rattle.listing.specs.Listing.{IsReport, IsHoming};
 // What a line of the report shows.
 pub struct Line {
     pub client: usize,
-    pub figures: Figures,
-    pub wait: Wait,
+    pub figures: FigureAnswer,
+    pub wait: WaitAnswer,
     pub verdict: Verdict,
 }
 

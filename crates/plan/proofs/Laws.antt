@@ -13,7 +13,7 @@ use borrow.Author.Tests.{leb-true, le-leb, lt-leb, eq-eqb, ne-eqb}
 use Rattle.records.specs.Refusal as refusal
 use Rattle.records.specs.First.{orElse}
 use Rattle.records.specs.declared.Outcome.the-variants.{Fine}
-use Rattle.records.proofs.Checks.{between-true, both-fine, need-fine, range-fine, range-pass, first-fine, first-all}
+use Rattle.records.proofs.Checks.{between-true, both-fine, unless-fine, range-fine, range-pass, first-fine, first-all}
 use Rattle.records.proofs.Checks.{first-same, one-or-none, below-or-not}
 use Rattle.records.proofs.Lists.{get-padded, padded-same}
 use Rattle.plan.specs.declared.Client.{Client}
@@ -34,8 +34,8 @@ pub client-fine : (c : Client) (offset : ℕ) → clientCheck c offset ≡ Fine 
 unfolding clientCheck
 client-fine c offset h =
     let a = both-fine _ _ h in
-    let r = between-true 1 (c .p) (c .q) (need-fine _ _ _ (a .0)) in
-    record { p-low = r .0; p-high = r .1; b-low = leb-true 1 (c .b) (need-fine _ _ _ (a .1)) }
+    let r = between-true 1 (c .p) (c .q) (unless-fine _ _ _ (a .0)) in
+    record { p-low = r .0; p-high = r .1; b-low = leb-true 1 (c .b) (unless-fine _ _ _ (a .1)) }
 
 pub client-pass : (c : Client) (offset : ℕ) → Required c → clientCheck c offset ≡ Fine
 unfolding clientCheck
@@ -43,7 +43,7 @@ client-pass c offset r = simp (le-leb 1 (c .p) (r .p-low), le-leb (c .p) (c .q) 
 
 pub owner-fine : (owner n offset : ℕ) → ownerCheck owner n offset ≡ Fine → owner ≤ n
 unfolding ownerCheck
-owner-fine owner n offset h = leb-true owner n (need-fine _ _ _ h)
+owner-fine owner n offset h = leb-true owner n (unless-fine _ _ _ h)
 
 pub owner-pass : (owner n offset : ℕ) → owner ≤ n → ownerCheck owner n offset ≡ Fine
 unfolding ownerCheck

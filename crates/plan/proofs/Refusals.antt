@@ -7,10 +7,10 @@ use Prim.Native.Nat.{ℕ, _≤_}
 use native.Mathlib.Omega.{arith}
 use lib.Dec.{leb}
 use Rattle.records.specs.Refusal as refusal
-use Rattle.records.specs.First.{between, need, rangeCheck, orElse, firstOf, offsetOf, Numbered}
+use Rattle.records.specs.First.{between, unless, rangeCheck, orElse, firstOf, offsetOf, Numbered}
 use Rattle.records.specs.declared.Outcome.{Outcome}
 use Rattle.records.specs.declared.Outcome.the-variants.{Fine}
-use Rattle.records.proofs.Refusals.{or-each, first-each, need-numbered, range-numbered, need-within, need-unread}
+use Rattle.records.proofs.Refusals.{or-each, first-each, unless-numbered, range-numbered, unless-within, unless-unread}
 use Rattle.records.proofs.Refusals.{range-unread}
 use Rattle.plan.specs.declared.Client.{Client}
 use Rattle.plan.specs.declared.Plan.{Plan}
@@ -42,13 +42,13 @@ pub client-numbered : (most : ℕ) (c : Client) (offset : ℕ) → refusal.owner
 unfolding clientCheck
 client-numbered most c offset h =
     or-each (Numbered most)
-    (need (between 1 (c .p) (c .q)) refusal.rate offset) (need (leb 1 (c .b)) refusal.latency offset)
-    (need-numbered most (between 1 (c .p) (c .q)) refusal.rate offset (omega arith) (omega arith))
-    (need-numbered most (leb 1 (c .b)) refusal.latency offset (omega arith) (omega arith))
+    (unless (between 1 (c .p) (c .q)) refusal.rate offset) (unless (leb 1 (c .b)) refusal.latency offset)
+    (unless-numbered most (between 1 (c .p) (c .q)) refusal.rate offset (omega arith) (omega arith))
+    (unless-numbered most (leb 1 (c .b)) refusal.latency offset (omega arith) (omega arith))
 
 pub owner-numbered : (most owner n offset : ℕ) → refusal.owner ≤ most → Numbered most (ownerCheck owner n offset)
 unfolding ownerCheck
-owner-numbered most owner n offset h = need-numbered most (leb owner n) refusal.owner offset (omega arith) h
+owner-numbered most owner n offset h = unless-numbered most (leb owner n) refusal.owner offset (omega arith) h
 
 pub requirements-numbered : (most : ℕ) → refusal.owner ≤ most → (plan : Plan) → Numbered most (requirementsCheck plan)
 requirements-numbered most h =
@@ -74,13 +74,13 @@ pub client-within : (most : ℕ) (c : Client) (offset : ℕ) → offset ≤ most
 unfolding clientCheck
 client-within most c offset h =
     or-each (λ (o : Outcome). offsetOf o ≤ most)
-    (need (between 1 (c .p) (c .q)) refusal.rate offset) (need (leb 1 (c .b)) refusal.latency offset)
-    (need-within most (between 1 (c .p) (c .q)) refusal.rate offset h)
-    (need-within most (leb 1 (c .b)) refusal.latency offset h)
+    (unless (between 1 (c .p) (c .q)) refusal.rate offset) (unless (leb 1 (c .b)) refusal.latency offset)
+    (unless-within most (between 1 (c .p) (c .q)) refusal.rate offset h)
+    (unless-within most (leb 1 (c .b)) refusal.latency offset h)
 
 pub owner-within : (most owner n offset : ℕ) → offset ≤ most → offsetOf (ownerCheck owner n offset) ≤ most
 unfolding ownerCheck
-owner-within most owner n offset h = need-within most (leb owner n) refusal.owner offset h
+owner-within most owner n offset h = unless-within most (leb owner n) refusal.owner offset h
 
 -- the offset outside reading
 abbrev unread : Outcome → Type 0
@@ -94,10 +94,10 @@ requirements-unread =
     (λ n. range-unread n 8 refusal.count)
     (λ c.
     or-each unread
-    (need (between 1 (c .p) (c .q)) refusal.rate 0) (need (leb 1 (c .b)) refusal.latency 0)
-    (need-unread (between 1 (c .p) (c .q)) refusal.rate) (need-unread (leb 1 (c .b)) refusal.latency))
+    (unless (between 1 (c .p) (c .q)) refusal.rate 0) (unless (leb 1 (c .b)) refusal.latency 0)
+    (unless-unread (between 1 (c .p) (c .q)) refusal.rate) (unless-unread (leb 1 (c .b)) refusal.latency))
 
 pub plan-unread : (plan : Plan) → offsetOf (planCheck plan) ≡ 0
 unfolding ownerCheck
 plan-unread plan =
-    plan-each unread refl (λ owner n. need-unread (leb owner n) refusal.owner) plan (requirements-unread plan)
+    plan-each unread refl (λ owner n. unless-unread (leb owner n) refusal.owner) plan (requirements-unread plan)

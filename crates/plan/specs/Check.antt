@@ -2,7 +2,7 @@
 use Prim.Native.Nat.{ℕ}
 use lib.Dec.{leb}
 use Rattle.records.specs.Refusal as refusal
-use Rattle.records.specs.First.{between, need, rangeCheck, orElse, firstOf}
+use Rattle.records.specs.First.{between, unless, rangeCheck, orElse, firstOf}
 use Rattle.records.specs.declared.Outcome.{Outcome}
 use Rattle.plan.specs.declared.Client.{Client}
 use Rattle.plan.specs.declared.Plan.{Plan}
@@ -19,11 +19,11 @@ countCheck n = rangeCheck n 8 refusal.count
 -- 8: p is 0, q is 0 or p > q, that is, p is not 1 to q; then 9: b is 0
 unfoldable pub clientCheck : Client → ℕ → Outcome
 clientCheck c offset =
-    orElse (need (between 1 (c .p) (c .q)) refusal.rate offset) (need (leb 1 (c .b)) refusal.latency offset)
+    orElse (unless (between 1 (c .p) (c .q)) refusal.rate offset) (unless (leb 1 (c .b)) refusal.latency offset)
 
 -- 10: an owner exceeds n
 unfoldable pub ownerCheck : ℕ → ℕ → ℕ → Outcome
-ownerCheck owner n offset = need (leb owner n) refusal.owner offset
+ownerCheck owner n offset = unless (leb owner n) refusal.owner offset
 
 -- 8 and 9 of client i + 1 of a plan
 unfoldable pub clientCheckOf : Plan → ℕ → Outcome

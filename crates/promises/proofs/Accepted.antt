@@ -23,24 +23,24 @@ use Rattle.plan.specs.Plan.{clientOf, ownOf, withTable}
 use Rattle.plan.proofs.Laws.{Checked, requirements-fine, requirements-pass, requirements-same, plan-fine, plan-pass}
 use Rattle.plan.proofs.Laws.{asked-fine, asked-pass}
 use Rattle.figures.specs.declared.Figure.{Figure}
-use Rattle.figures.specs.declared.Figures.the-variants as figures
+use Rattle.figures.specs.declared.FigureAnswer.the-variants as figures
 use Rattle.figures.specs.Figures.{IsFigures}
 use Rattle.figures.proofs.Laws.{frame-of}
 use Rattle.figures.proofs.Answers.{given-fine}
-use Rattle.judge.specs.declared.Judged.{Judged}
-use Rattle.judge.specs.declared.Judged.the-variants as judged
+use Rattle.judge.specs.declared.JudgeAnswer.{JudgeAnswer}
+use Rattle.judge.specs.declared.JudgeAnswer.the-variants as judged
 use Rattle.judge.specs.declared.Judgement.{Judgement}
 use Rattle.judge.specs.declared.Verdict.{Verdict}
 use Rattle.judge.specs.declared.Verdict.the-variants.{Ok, Rate, Late}
-use Rattle.judge.specs.declared.Verdicts.the-variants as verdicts
+use Rattle.judge.specs.declared.VerdictAnswer.the-variants as verdicts
 use Rattle.judge.specs.Rules.{enough, hasRate, IsLate, IsVerdict}
 use Rattle.judge.specs.Judge.{ClientOk, Accepted, JudgedAs, IsJudged, acceptance, IsVerdictOf}
 use Rattle.judge.proofs.Laws.{rate-true, rate-pass, rate-owns, late-start, late-length, in-time-by-scaled}
 use Rattle.judge.proofs.Laws.{scaled-by-in-time}
 use Rattle.judge.proofs.Once.{judgement-one, judged-once}
 use Rattle.explore.specs.Best.{Table, owned, LexLe, NoTable}
-use Rattle.search.specs.declared.Finding.{Finding}
-use Rattle.search.specs.declared.Finding.the-variants as finding
+use Rattle.search.specs.declared.SearchAnswer.{SearchAnswer}
+use Rattle.search.specs.declared.SearchAnswer.the-variants as finding
 use Rattle.search.specs.declared.Searched.{Searched}
 use Rattle.search.specs.Search.{idlePlan, searchCheck, AcceptedIn, SearchedAs, IsSearched}
 use Rattle.search.proofs.Questions.{Searchable, search-fine, search-pass}
@@ -242,7 +242,7 @@ module _ (f n : ℕ) (clients : List Client) (r : Searched) (is : IsSearched (id
   is-found : r .answer ≡ finding.Found → SearchedAs (idlePlan f n clients) finding.Found (r .owners)
   is-found e = by (r .answer) is e
     where
-      by : (a : Finding) → SearchedAs (idlePlan f n clients) a (r .owners) → a ≡ finding.Found
+      by : (a : SearchAnswer) → SearchedAs (idlePlan f n clients) a (r .owners) → a ≡ finding.Found
           → SearchedAs (idlePlan f n clients) finding.Found (r .owners)
       by a h e = rw e at h
 
@@ -266,7 +266,7 @@ module _ (f n : ℕ) (clients : List Client) (r : Searched) (is : IsSearched (id
         owned = λ x l. rw (getD-take f (r .owners) x 0 l) at (h .1 .0 .table .most x);
       }
 
-  pub found-judged : r .answer ≡ finding.Found → (j : Judged) → IsJudged foundPlan j → j ≡ judged.Given acceptance
+  pub found-judged : r .answer ≡ finding.Found → (j : JudgeAnswer) → IsJudged foundPlan j → j ≡ judged.Given acceptance
   unfolding foundPlan
   found-judged e j judges =
       let fine = plan-pass foundPlan (found-checked e) in
@@ -285,13 +285,13 @@ module _ (f n : ℕ) (clients : List Client) (r : Searched) (is : IsSearched (id
       → (r .answer ≡ finding.None) ↔ NoTable (AcceptedIn (idlePlan f n clients)) f n
   none-exactly ok = (there (r .answer) is, back (r .answer) is)
     where
-      there : (a : Finding) → SearchedAs (idlePlan f n clients) a (r .owners) → a ≡ finding.None
+      there : (a : SearchAnswer) → SearchedAs (idlePlan f n clients) a (r .owners) → a ≡ finding.None
           → NoTable (AcceptedIn (idlePlan f n clients)) f n
       there a h e =
           let none : SearchedAs (idlePlan f n clients) finding.None (r .owners) = rw e at h in
           none .1 .0
 
-      back : (a : Finding) → SearchedAs (idlePlan f n clients) a (r .owners)
+      back : (a : SearchAnswer) → SearchedAs (idlePlan f n clients) a (r .owners)
           → NoTable (AcceptedIn (idlePlan f n clients)) f n → a ≡ finding.None
       back finding.Found h none = absurd (none _ (h .1 .0 .table) (h .1 .0 .good))
       back finding.None h none = refl

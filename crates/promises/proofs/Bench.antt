@@ -27,17 +27,17 @@ use Rattle.plan.specs.Check.{clientCheck, ownerCheck, clientCheckOf, requiremen
 use Rattle.plan.specs.Check.{ownersCheck, planCheck}
 use Rattle.plan.proofs.Laws.{Required, Checked, plan-fine}
 use Rattle.figures.specs.declared.Figure.{Figure}
-use Rattle.figures.specs.declared.Figures.{Figures}
-use Rattle.figures.specs.declared.Figures.the-variants as figures
-use Rattle.figures.specs.declared.Wait.the-variants as wait
+use Rattle.figures.specs.declared.FigureAnswer.{FigureAnswer}
+use Rattle.figures.specs.declared.FigureAnswer.the-variants as figures
+use Rattle.figures.specs.declared.WaitAnswer.the-variants as wait
 use Rattle.figures.specs.Check.{mostWaiting}
 use Rattle.figures.specs.Figures.{IsFigure, figuresNumber, figureIn, waitNumber, waitIn}
 use Rattle.figures.proofs.Laws.{frame-of}
 use Rattle.figures.proofs.Questions.{Asked, figure-pass}
 use Rattle.figures.proofs.Answers.{figures-given, waits-given}
 use Rattle.figures.proofs.Once.{figures-once, waits-once}
-use Rattle.judge.specs.declared.Judged.{Judged}
-use Rattle.judge.specs.declared.Judged.the-variants as judged
+use Rattle.judge.specs.declared.JudgeAnswer.{JudgeAnswer}
+use Rattle.judge.specs.declared.JudgeAnswer.the-variants as judged
 use Rattle.judge.specs.declared.Verdict.the-variants.{Late}
 use Rattle.judge.specs.Rules.{enough, covers, IsOk, IsLate}
 use Rattle.judge.specs.Judge.{IsJudged, acceptance}
@@ -45,8 +45,8 @@ use Rattle.judge.proofs.Laws.{first-at, judged-none}
 use Rattle.judge.proofs.Once.{judged-once}
 use Rattle.explore.specs.Best.{owned, IsBest}
 use Rattle.explore.proofs.Order.{best-one}
-use Rattle.search.specs.declared.Finding.{Finding}
-use Rattle.search.specs.declared.Finding.the-variants as finding
+use Rattle.search.specs.declared.SearchAnswer.{SearchAnswer}
+use Rattle.search.specs.declared.SearchAnswer.the-variants as finding
 use Rattle.search.specs.Search.{searchCheck, sizeCheck, AcceptedIn, SearchedAs}
 use Rattle.search.proofs.Questions.{search-fine}
 use Rattle.arbiter.specs.Step.{ruleFor, servedBy, lessOne, advanced, positionCheck, arrivalsCheck, stepCheck, stepOf}
@@ -54,7 +54,7 @@ use Rattle.promises.specs.Bench.{Schedule, among, schedulePlan, searchPl
 use Rattle.promises.specs.Bench.{accepted, late, found, none, steps, Answered, Right, AllRight, questions}
 use Rattle.promises.proofs.Tests.{allBelow, fineTest, fine-tested, okTest, ok-tested, lateTest, late-tested}
 use Rattle.promises.proofs.Tests.{acceptTest, everyTable, lexTest, betterTest, noneTest, none-tested, bestTest}
-use Rattle.promises.proofs.Tests.{best-tested, numbersTest, serviceTest, stepTest, step-tested}
+use Rattle.promises.proofs.Tests.{best-tested, numbersTest, answerTest, stepTest, step-tested}
 
 -- ---- a schedule as a plan
 
@@ -197,7 +197,7 @@ module _ (t : Schedule) (m L : ℕ) (facts : Figured t m L) where
         is = allowed;
         only = λ r is.
             let e = figures-once plan 1 r (figures.Given its-figure) is allowed in
-            (ap figuresNumber e, ap (λ (x : Figures). figureIn x .slots) e, ap (λ (x : Figures). figureIn x .scaled) e);
+            (ap figuresNumber e, ap (λ (x : FigureAnswer). figureIn x .slots) e, ap (λ (x : FigureAnswer). figureIn x .scaled) e);
       }
 
   wait-right : (k slots : ℕ) → waitTest (t .f) m L k slots ≡ true → Right (waiting t k slots)
@@ -242,7 +242,7 @@ module _ (t : Schedule) (client : Client) (tested : fineTest (planCheck (schedul
       rw (first, get-padded (λ j. client) 1 8 noClient 0 (omega arith), own-schedule client t f-low) h
 
   -- an answer that is allowed is the only one
-  judged-right : (r : Judged) → IsJudged judged-plan r → Answered (IsJudged judged-plan) (λ x. x ≡ r)
+  judged-right : (r : JudgeAnswer) → IsJudged judged-plan r → Answered (IsJudged judged-plan) (λ x. x ≡ r)
   judged-right r is = record { answer = r; is = is; only = λ x allowed. judged-once judged-plan x r allowed is }
 
   accepted-right : okTest client (ownBy t) (t .f) ≡ true → Right (accepted t client)
@@ -285,7 +285,7 @@ module _ (f n : ℕ) (client : Client) (facts : fineTest (searchCheck (searchPla
       best : IsBest (AcceptedIn searched) f n table
       best = best-tested searched (search-fine searched searched-fine .bounds .f-low) table h
 
-      by : (a : Finding) (owners : List ℕ) → SearchedAs searched a owners
+      by : (a : SearchAnswer) (owners : List ℕ) → SearchedAs searched a owners
           → (a ≡ finding.Found) × (take f owners ≡ table)
       by finding.Found owners x = (refl, best-one (AcceptedIn searched) f n _ table (x .1 .0) best)
       by finding.None owners x = absurd (x .1 .0 table (best .table) (best .good))
@@ -300,7 +300,7 @@ module _ (f n : ℕ) (client : Client) (facts : fineTest (searchCheck (searchPla
         only = λ r is. by (r .answer) (r .owners) is;
       }
     where
-      by : (a : Finding) (owners : List ℕ) → SearchedAs searched a owners → a ≡ finding.None
+      by : (a : SearchAnswer) (owners : List ℕ) → SearchedAs searched a owners → a ≡ finding.None
       by finding.Found owners x = absurd (none-tested searched h _ (x .1 .0 .table) (x .1 .0 .good))
       by finding.None owners x = refl
       by (finding.Refused k) owners x = refused-fine (searchCheck searched) k (x .0) searched-fine
@@ -343,6 +343,6 @@ pub bench : AllRight questions
 unfolding questions test ownBy scaledOf lackFrom largest lack within waitOf okTest lateTest fineTest noneTest bestTest
     acceptTest everyTable allBelow betterTest lexTest owned enough covers ownIn searchPlan searchCheck sizeCheck
     schedulePlan planCheck requirementsCheck ownersCheck clientCheckOf ownerCheckOf clientCheck ownerCheck rangeCheck
-    firstOf firsts onto padded stepTest serviceTest numbersTest stepOf stepCheck positionCheck arrivalsCheck advanced
+    firstOf firsts onto padded stepTest answerTest numbersTest stepOf stepCheck positionCheck arrivalsCheck advanced
     servedBy lessOne ruleFor
 bench = all-right questions refl

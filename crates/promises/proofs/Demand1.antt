@@ -29,7 +29,7 @@ use Rattle.stream.specs.Read.{readCheck, planOf, planIf, readOf}
 use Rattle.stream.specs.Write.{streamOf, writeCheck, writtenBy, writtenOf, writtenNumber, writtenSize, bytesBy}
 use Rattle.stream.specs.Write.{bytesOf, Wrote}
 use Rattle.stream.specs.Trip.{Copied}
-use Rattle.stream.specs.declared.Written.{Written}
+use Rattle.stream.specs.declared.WriteAnswer.{WriteAnswer}
 use Rattle.stream.proofs.Same.{same-stream}
 use Rattle.stream.proofs.Numbers.{read-numbered, write-numbered}
 use Rattle.stream.proofs.Offsets.{read-within}
@@ -37,41 +37,41 @@ use Rattle.stream.proofs.Trips.{copied-once}
 use Rattle.figures.specs.Check.{figureCheck, waitCheck}
 use Rattle.figures.specs.Figures.{noFigure, figuresNumber, figureIn, IsFigures, waitNumber, waitIn, IsWaitFor}
 use Rattle.figures.specs.declared.Figure.{Figure}
-use Rattle.figures.specs.declared.Figures.{Figures}
-use Rattle.figures.specs.declared.Figures.the-variants as figures
-use Rattle.figures.specs.declared.Wait.{Wait}
-use Rattle.figures.specs.declared.Wait.the-variants as wait
+use Rattle.figures.specs.declared.FigureAnswer.{FigureAnswer}
+use Rattle.figures.specs.declared.FigureAnswer.the-variants as figures
+use Rattle.figures.specs.declared.WaitAnswer.{WaitAnswer}
+use Rattle.figures.specs.declared.WaitAnswer.the-variants as wait
 use Rattle.figures.proofs.Questions.{Asked, figure-numbered, figure-fine, figure-pass, Waited, wait-fine, wait-pass}
 use Rattle.figures.proofs.Questions.{wait-numbered}
 use Rattle.figures.proofs.Answers.{given-fine, refused-not-fine, wait-given-fine, wait-refused-not-fine}
 use Rattle.figures.proofs.Once.{figures-once, waits-once}
 use Rattle.figures.proofs.Same.{figures-same, waits-same}
-use Rattle.judge.specs.declared.Judged.{Judged}
-use Rattle.judge.specs.declared.Judged.the-variants as judged
+use Rattle.judge.specs.declared.JudgeAnswer.{JudgeAnswer}
+use Rattle.judge.specs.declared.JudgeAnswer.the-variants as judged
 use Rattle.judge.specs.declared.Judgement.{Judgement}
 use Rattle.judge.specs.declared.Verdict.{Verdict}
-use Rattle.judge.specs.declared.Verdicts.{Verdicts}
-use Rattle.judge.specs.declared.Verdicts.the-variants as verdicts
+use Rattle.judge.specs.declared.VerdictAnswer.{VerdictAnswer}
+use Rattle.judge.specs.declared.VerdictAnswer.the-variants as verdicts
 use Rattle.judge.specs.Judge.{IsJudged, judgedNumber, judgedValues, judgedVerdict, IsVerdictOf, verdictNumber}
 use Rattle.judge.specs.Judge.{verdictIn}
 use Rattle.judge.proofs.Once.{judged-number, judged-once, verdicts-number, verdicts-once}
 use Rattle.judge.proofs.Same.{judged-same, verdicts-same}
-use Rattle.search.specs.declared.Finding.{Finding}
-use Rattle.search.specs.declared.Finding.the-variants as finding
+use Rattle.search.specs.declared.SearchAnswer.{SearchAnswer}
+use Rattle.search.specs.declared.SearchAnswer.the-variants as finding
 use Rattle.search.specs.declared.Searched.{Searched}
 use Rattle.search.specs.Search.{idlePlan, searchCheck, SearchedAs, IsSearched, searchedNumber}
 use Rattle.search.proofs.Questions.{Searchable, search-fine, search-pass, search-numbered}
 use Rattle.search.proofs.Once.{searched-number, searched-once}
 use Rattle.search.proofs.Same.{searched-same}
-use Rattle.arbiter.specs.declared.Answer.{Answer}
+use Rattle.arbiter.specs.declared.Served.{Served}
 use Rattle.arbiter.specs.declared.Arbiter.{Arbiter}
-use Rattle.arbiter.specs.declared.Service.the-variants as service
+use Rattle.arbiter.specs.declared.StepAnswer.the-variants as service
 use Rattle.arbiter.specs.declared.Stepped.{Stepped}
 use Rattle.arbiter.specs.Step.{countOf, advanced, stepCheck, stepOf, stepNumber, clientServed}
 use Rattle.arbiter.proofs.Questions.{Steps, step-fine, step-pass, step-numbered}
 use Rattle.arbiter.proofs.Slots.{step-number as number-of, either}
 use Rattle.arbiter.proofs.Runs.{advances-so}
-use Rattle.arbiter.proofs.Same.{same-step, answer-unread, count-unread}
+use Rattle.arbiter.proofs.Same.{same-step, served-unread, count-unread}
 use Rattle.arbiter.proofs.Laws.{step-kept as past-kept, step-none as past-none}
 use Rattle.listing.specs.Listing.{figuresText, waitText, IsReport, IsHoming}
 use Rattle.listing.proofs.Once.{report-once as one-report, homing-once as one-homing}
@@ -79,38 +79,38 @@ use Rattle.listing.proofs.Once.{report-once as one-report, homing-once as one-h
 -- ---- any two outcomes coincide
 
 -- where the contract is an equation, `r ≡ x`: all of records' and plan's entries, `stream::read`, `arbiter::step` and
--- `step_lent`, `reread`
+-- `step_lending`, `reread`
 pub once : {A : Type 0} (x r r′ : A) → r ≡ x → r′ ≡ x → r ≡ r′
 once x r r′ h h′ = h ∙ sym h′
 
 -- where a record is lent, too: `arbiter::step_in_place`
-pub step-once : (plan : Plan) (arb : Arbiter) (xs : List ℕ) (r r′ : Answer) (now now′ : Arbiter)
-    → (r ≡ stepOf plan arb xs .answer) × (now ≡ stepOf plan arb xs .next)
-    → (r′ ≡ stepOf plan arb xs .answer) × (now′ ≡ stepOf plan arb xs .next) → (r ≡ r′) × (now ≡ now′)
+pub step-once : (plan : Plan) (arb : Arbiter) (xs : List ℕ) (r r′ : Served) (now now′ : Arbiter)
+    → (r ≡ stepOf plan arb xs .served) × (now ≡ stepOf plan arb xs .next)
+    → (r′ ≡ stepOf plan arb xs .served) × (now′ ≡ stepOf plan arb xs .next) → (r ≡ r′) × (now ≡ now′)
 step-once plan arb xs r r′ now now′ h h′ = (once _ r r′ (h .0) (h′ .0), once _ now now′ (h .1) (h′ .1))
 
 -- where there are lent bytes, too: `stream::write` and `rewritten`
-pub write-once : (plan : Plan) (out : List ℕ) (r r′ : Written) (now now′ : List ℕ) → Wrote plan out r now
+pub write-once : (plan : Plan) (out : List ℕ) (r r′ : WriteAnswer) (now now′ : List ℕ) → Wrote plan out r now
     → Wrote plan out r′ now′ → (r ≡ r′) × (now ≡ now′)
 write-once plan out r r′ now now′ h h′ =
     (once _ r r′ (h .answer) (h′ .answer), once _ now now′ (h .bytes) (h′ .bytes))
 
-pub rewritten-once : (s out : List ℕ) (r r′ : Written) (now now′ : List ℕ) → Copied s out r now → Copied s out r′ now′
+pub rewritten-once : (s out : List ℕ) (r r′ : WriteAnswer) (now now′ : List ℕ) → Copied s out r now → Copied s out r′ now′
     → (r ≡ r′) × (now ≡ now′)
 rewritten-once = copied-once
 
 -- where it says "largest" and "rounded up": `figure_of`, `wait_for` and, with the default number, `default_wait`
-pub figure-once : (plan : Plan) (c : ℕ) (r r′ : Figures) → IsFigures plan c r → IsFigures plan c r′ → r ≡ r′
+pub figure-once : (plan : Plan) (c : ℕ) (r r′ : FigureAnswer) → IsFigures plan c r → IsFigures plan c r′ → r ≡ r′
 figure-once = figures-once
 
-pub wait-once : (plan : Plan) (c k : ℕ) (r r′ : Wait) → IsWaitFor plan c k r → IsWaitFor plan c k r′ → r ≡ r′
+pub wait-once : (plan : Plan) (c k : ℕ) (r r′ : WaitAnswer) → IsWaitFor plan c k r → IsWaitFor plan c k r′ → r ≡ r′
 wait-once = waits-once
 
 -- where it says "exactly when", "first", "fewest" and "least": `judge`, `verdict_of`, `search`
-pub judge-once : (plan : Plan) (r r′ : Judged) → IsJudged plan r → IsJudged plan r′ → r ≡ r′
+pub judge-once : (plan : Plan) (r r′ : JudgeAnswer) → IsJudged plan r → IsJudged plan r′ → r ≡ r′
 judge-once = judged-once
 
-pub verdict-once : (plan : Plan) (c : ℕ) (r r′ : Verdicts) → IsVerdictOf plan c r → IsVerdictOf plan c r′ → r ≡ r′
+pub verdict-once : (plan : Plan) (c : ℕ) (r r′ : VerdictAnswer) → IsVerdictOf plan c r → IsVerdictOf plan c r′ → r ≡ r′
 verdict-once = verdicts-once
 
 pub search-once : (f n : ℕ) (clients : List Client) (r r′ : Searched) → IsSearched (idlePlan f n clients) r
@@ -160,14 +160,14 @@ pub homing-page : (s out now : List ℕ) (r : ℕ) → Puts (IsHoming s) out 0 n
 homing-page s = page-after (IsHoming s)
 
 -- "A client without slots has `-` for L and wait", and m 0; one with slots has numbers (`figure-given`, `wait-given`)
-pub no-slots-figures : (plan : Plan) (c : ℕ) (r : Figures) → IsFigures plan c r
+pub no-slots-figures : (plan : Plan) (c : ℕ) (r : FigureAnswer) → IsFigures plan c r
     → slotsOf (ownOf plan c) (plan .f) ≡ 0 → figuresText r ≡ bytes "0 -"
 unfolding figuresText
 no-slots-figures plan c (figures.Given figure) is none =
     absurd (omega (arith, none, figure-fine plan c (given-fine plan c figure is) .owns))
 no-slots-figures plan c (figures.Refused number) is none = refl
 
-pub no-slots-wait : (plan : Plan) (c k : ℕ) (r : Wait) → IsWaitFor plan c k r
+pub no-slots-wait : (plan : Plan) (c k : ℕ) (r : WaitAnswer) → IsWaitFor plan c k r
     → slotsOf (ownOf plan c) (plan .f) ≡ 0 → waitText r ≡ bytes "-"
 unfolding waitText
 no-slots-wait plan c k (wait.Given slots) is none =
@@ -193,10 +193,10 @@ pub wait-number : (plan : Plan) (c k : ℕ) → Numbered 15 (waitCheck plan c k)
 wait-number = wait-numbered refusal.waiting (omega arith)
 
 -- judging has the plan's numbers, a client's verdict 13 besides
-pub judge-number : (plan : Plan) (r : Judged) → IsJudged plan r → judgedNumber r ≡ numberOf (planCheck plan)
+pub judge-number : (plan : Plan) (r : JudgeAnswer) → IsJudged plan r → judgedNumber r ≡ numberOf (planCheck plan)
 judge-number = judged-number
 
-pub verdict-number : (plan : Plan) (c : ℕ) (r : Verdicts) → IsVerdictOf plan c r
+pub verdict-number : (plan : Plan) (c : ℕ) (r : VerdictAnswer) → IsVerdictOf plan c r
     → (verdictNumber r ≡ numberOf (askedCheck plan c)) × Numbered 13 (askedCheck plan c)
 verdict-number plan c r is = (verdicts-number plan c r is, asked-numbered refusal.asked (omega arith) plan c)
 
@@ -208,7 +208,7 @@ search-number f n clients r is =
     (searched-number plan (r .answer) (r .owners) is, search-numbered refusal.tooLarge (omega arith) plan)
 
 pub step-number : (plan : Plan) (arb : Arbiter) (xs : List ℕ)
-    → (stepNumber (stepOf plan arb xs .answer .service) ≡ numberOf (stepCheck plan (arb .position) (length xs)))
+    → (stepNumber (stepOf plan arb xs .served .answer) ≡ numberOf (stepCheck plan (arb .position) (length xs)))
     × Numbered 18 (stepCheck plan (arb .position) (length xs))
 step-number plan arb xs =
     (number-of plan arb xs, step-numbered refusal.arrivals (omega arith) plan (arb .position) (length xs))
@@ -246,23 +246,23 @@ pub step-exactly : (plan : Plan) (position arrived : ℕ)
 step-exactly plan position arrived = (step-fine plan position arrived, step-pass plan position arrived)
 
 -- and where it passes, its answer is given
-pub figure-given : (plan : Plan) (c : ℕ) (r : Figures) → Asked plan c → IsFigures plan c r
+pub figure-given : (plan : Plan) (c : ℕ) (r : FigureAnswer) → Asked plan c → IsFigures plan c r
     → (figure : Figure) × (r ≡ figures.Given figure)
 figure-given plan c (figures.Given figure) ok is = (figure, refl)
 figure-given plan c (figures.Refused number) ok is = absurd (refused-not-fine plan c number is (figure-pass plan c ok))
 
-pub wait-given : (plan : Plan) (c k : ℕ) (r : Wait) → Waited plan c k → IsWaitFor plan c k r
+pub wait-given : (plan : Plan) (c k : ℕ) (r : WaitAnswer) → Waited plan c k → IsWaitFor plan c k r
     → (slots : ℕ) × (r ≡ wait.Given slots)
 wait-given plan c k (wait.Given slots) ok is = (slots, refl)
 wait-given plan c k (wait.Refused number) ok is =
     absurd (wait-refused-not-fine plan c k number is (wait-pass plan c k ok))
 
-pub judge-given : (plan : Plan) (r : Judged) → Checked plan → IsJudged plan r
+pub judge-given : (plan : Plan) (r : JudgeAnswer) → Checked plan → IsJudged plan r
     → (found : Judgement) × (r ≡ judged.Given found)
 judge-given plan (judged.Given found) ok is = (found, refl)
 judge-given plan (judged.Refused k) ok is = refused-fine (planCheck plan) k is (plan-pass plan ok)
 
-pub verdict-given : (plan : Plan) (c : ℕ) (r : Verdicts) → Checked plan × (1 ≤ c) × (c ≤ plan .n) → IsVerdictOf plan c r
+pub verdict-given : (plan : Plan) (c : ℕ) (r : VerdictAnswer) → Checked plan × (1 ≤ c) × (c ≤ plan .n) → IsVerdictOf plan c r
     → (verdict : Verdict) × (r ≡ verdicts.Given verdict)
 verdict-given plan c (verdicts.Given verdict) ok is = (verdict, refl)
 verdict-given plan c (verdicts.Refused k) ok is =
@@ -272,16 +272,16 @@ pub search-given : (f n : ℕ) (clients : List Client) (r : Searched) → Search
     → IsSearched (idlePlan f n clients) r → (r .answer ≡ finding.Found) ⊎ (r .answer ≡ finding.None)
 search-given f n clients r ok is = by (r .answer) is
   where
-    by : (a : Finding) → SearchedAs (idlePlan f n clients) a (r .owners) → (a ≡ finding.Found) ⊎ (a ≡ finding.None)
+    by : (a : SearchAnswer) → SearchedAs (idlePlan f n clients) a (r .owners) → (a ≡ finding.Found) ⊎ (a ≡ finding.None)
     by finding.Found h = inl refl
     by finding.None h = inr refl
     by (finding.Refused k) h =
         refused-fine (searchCheck (idlePlan f n clients)) k (h .0) (search-pass (idlePlan f n clients) ok)
 
 pub step-given : (plan : Plan) (arb : Arbiter) (xs : List ℕ) → Steps plan (arb .position) (length xs)
-    → (client : ℕ) × (stepOf plan arb xs .answer .service ≡ service.Given client)
+    → (client : ℕ) × (stepOf plan arb xs .served .answer ≡ service.Given client)
 unfolding advanced
-step-given plan arb xs ok = (_, ap (λ (r : Stepped). r .answer .service) (advances-so plan arb xs ok))
+step-given plan arb xs ok = (_, ap (λ (r : Stepped). r .served .answer) (advances-so plan arb xs ok))
 
 -- ---- "places past f .. and past n are ignored on the way in": plans that are the same get the same reply
 
@@ -296,17 +296,17 @@ write-same plan other out s =
     let f = same-stream plan other s in
     (rw (e, f), rw (e, f))
 
-pub figure-same : (plan other : Plan) (c : ℕ) (r : Figures) → Same plan other → IsFigures plan c r → IsFigures other c r
+pub figure-same : (plan other : Plan) (c : ℕ) (r : FigureAnswer) → Same plan other → IsFigures plan c r → IsFigures other c r
 figure-same plan other c r s = figures-same plan other s c r
 
-pub wait-same : (plan other : Plan) (c k : ℕ) (r : Wait) → Same plan other → IsWaitFor plan c k r
+pub wait-same : (plan other : Plan) (c k : ℕ) (r : WaitAnswer) → Same plan other → IsWaitFor plan c k r
     → IsWaitFor other c k r
 wait-same plan other c k r s = waits-same plan other s c k r
 
-pub judge-same : (plan other : Plan) (r : Judged) → Same plan other → IsJudged plan r → IsJudged other r
+pub judge-same : (plan other : Plan) (r : JudgeAnswer) → Same plan other → IsJudged plan r → IsJudged other r
 judge-same plan other r s = judged-same plan other s r
 
-pub verdict-same : (plan other : Plan) (c : ℕ) (r : Verdicts) → Same plan other → IsVerdictOf plan c r
+pub verdict-same : (plan other : Plan) (c : ℕ) (r : VerdictAnswer) → Same plan other → IsVerdictOf plan c r
     → IsVerdictOf other c r
 verdict-same plan other c r s = verdicts-same plan other s c r
 
@@ -323,10 +323,10 @@ step-same plan other arb xs s = same-step plan other s arb xs
 -- with the same counts up to n
 pub step-unread : (plan : Plan) (arb other : Arbiter) (xs : List ℕ) → arb .position ≡ other .position
     → ((i : ℕ) → i < plan .n → countOf arb i ≡ countOf other i)
-    → (stepOf plan arb xs .answer ≡ stepOf plan other xs .answer)
+    → (stepOf plan arb xs .served ≡ stepOf plan other xs .served)
     × ((i : ℕ) → i < plan .n → countOf (stepOf plan arb xs .next) i ≡ countOf (stepOf plan other xs .next) i)
 step-unread plan arb other xs place counts =
-    (answer-unread plan arb other xs place counts, count-unread plan arb other xs place counts)
+    (served-unread plan arb other xs place counts, count-unread plan arb other xs place counts)
 
 -- "and are kept"
 pub step-kept : (plan : Plan) (arb : Arbiter) (xs : List ℕ) (i : ℕ) → plan .n ≤ i
@@ -335,7 +335,7 @@ step-kept = past-kept
 
 -- "each client's turned-away count, 0 past n"
 pub step-none : (plan : Plan) (arb : Arbiter) (xs : List ℕ) (i : ℕ) → plan .n ≤ i
-    → getD (stepOf plan arb xs .answer .turned) i 0 ≡ 0
+    → getD (stepOf plan arb xs .served .turned) i 0 ≡ 0
 step-none = past-none
 
 -- ---- what a refusal returns
@@ -380,24 +380,24 @@ write-refused plan out h =
     (size-by o (length (streamOf plan)) (λ e. h (n ∙ e)), bytes-by o (streamOf plan) out (λ e. h (n ∙ e)))
 
 -- a refused figure has the refusal's number, and 0 for m and L
-pub figure-refused : (plan : Plan) (c : ℕ) (r : Figures) → IsFigures plan c r → (numberOf (figureCheck plan c) ≡ 0 → ⊥)
+pub figure-refused : (plan : Plan) (c : ℕ) (r : FigureAnswer) → IsFigures plan c r → (numberOf (figureCheck plan c) ≡ 0 → ⊥)
     → (figuresNumber r ≡ numberOf (figureCheck plan c)) × (figureIn r ≡ noFigure)
 figure-refused plan c (figures.Given figure) is h = absurd (h (sym (is .number)))
 figure-refused plan c (figures.Refused number) is h = (is .number, refl)
 
 -- a refused wait has the refusal's number, and 0 slots
-pub wait-refused : (plan : Plan) (c k : ℕ) (r : Wait) → IsWaitFor plan c k r → (numberOf (waitCheck plan c k) ≡ 0 → ⊥)
+pub wait-refused : (plan : Plan) (c k : ℕ) (r : WaitAnswer) → IsWaitFor plan c k r → (numberOf (waitCheck plan c k) ≡ 0 → ⊥)
     → (waitNumber r ≡ numberOf (waitCheck plan c k)) × (waitIn r ≡ 0)
 wait-refused plan c k (wait.Given slots) is h = absurd (h (sym (is .number)))
 wait-refused plan c k (wait.Refused number) is h = (is .number, refl)
 
 -- a refused plan has its number, 0 for client, start and length, and no verdict
-pub judge-refused : (plan : Plan) (r : Judged) → IsJudged plan r → (numberOf (planCheck plan) ≡ 0 → ⊥)
+pub judge-refused : (plan : Plan) (r : JudgeAnswer) → IsJudged plan r → (numberOf (planCheck plan) ≡ 0 → ⊥)
     → (judgedNumber r ≡ numberOf (planCheck plan)) × (judgedValues r ≡ 0 ∷ 0 ∷ 0 ∷ []) × (judgedVerdict r ≡ [])
 judge-refused plan (judged.Given found) is h = absurd (h (ap numberOf (is .0)))
 judge-refused plan (judged.Refused k) is h = (refused-number (planCheck plan) k is, refl, refl)
 
-pub verdict-refused : (plan : Plan) (c : ℕ) (r : Verdicts) → IsVerdictOf plan c r
+pub verdict-refused : (plan : Plan) (c : ℕ) (r : VerdictAnswer) → IsVerdictOf plan c r
     → (numberOf (askedCheck plan c) ≡ 0 → ⊥)
     → (verdictNumber r ≡ numberOf (askedCheck plan c)) × (verdictIn r ≡ [])
 verdict-refused plan c (verdicts.Given verdict) is h = absurd (h (ap numberOf (is .0)))
@@ -408,7 +408,7 @@ pub search-refused : (f n : ℕ) (clients : List Client) (r : Searched) → IsSe
     → (searchedNumber (r .answer) ≡ 0 → ⊥) → r .owners ≡ replicate 64 0
 search-refused f n clients r = by (r .answer)
   where
-    by : (a : Finding) → SearchedAs (idlePlan f n clients) a (r .owners) → (searchedNumber a ≡ 0 → ⊥)
+    by : (a : SearchAnswer) → SearchedAs (idlePlan f n clients) a (r .owners) → (searchedNumber a ≡ 0 → ⊥)
         → r .owners ≡ replicate 64 0
     by finding.Found x h = absurd (h refl)
     by finding.None x h = absurd (h refl)
@@ -416,14 +416,14 @@ search-refused f n clients r = by (r .answer)
 
 -- "leaves .. an arbiter record unchanged"
 pub step-refused : (plan : Plan) (arb : Arbiter) (xs : List ℕ)
-    → (stepNumber (stepOf plan arb xs .answer .service) ≡ 0 → ⊥)
-    → (clientServed (stepOf plan arb xs .answer .service) ≡ 0)
-    × (stepOf plan arb xs .answer .turned ≡ replicate 8 0)
+    → (stepNumber (stepOf plan arb xs .served .answer) ≡ 0 → ⊥)
+    → (clientServed (stepOf plan arb xs .served .answer) ≡ 0)
+    × (stepOf plan arb xs .served .turned ≡ replicate 8 0)
     × (stepOf plan arb xs .next ≡ arb)
 unfolding advanced
 step-refused plan arb xs =
-    either (λ (r : Stepped). (stepNumber (r .answer .service) ≡ 0 → ⊥) → (clientServed (r .answer .service) ≡ 0)
-    × (r .answer .turned ≡ replicate 8 0) × (r .next ≡ arb)) plan arb xs (λ number h. (refl, refl, refl))
+    either (λ (r : Stepped). (stepNumber (r .served .answer) ≡ 0 → ⊥) → (clientServed (r .served .answer) ≡ 0)
+    × (r .served .turned ≡ replicate 8 0) × (r .next ≡ arb)) plan arb xs (λ number h. (refl, refl, refl))
     (λ fine h. absurd (h refl))
 
 kept-by : (o : Outcome) (stream out : List ℕ) → drop (length stream) (bytesBy o stream out) ≡ drop (length stream) out

@@ -27,8 +27,8 @@ use Rattle.stream.proofs.Lengths.{length-stream, stream-sizes}
 use Rattle.stream.proofs.ReadBack.{read-back as stream-read-back}
 use Rattle.stream.proofs.Answers.{read-rewritten, reading-checked}
 use Rattle.figures.specs.declared.Figure.{Figure}
-use Rattle.figures.specs.declared.Figures.the-variants as figures
-use Rattle.figures.specs.declared.Wait.the-variants as wait
+use Rattle.figures.specs.declared.FigureAnswer.the-variants as figures
+use Rattle.figures.specs.declared.WaitAnswer.the-variants as wait
 use Rattle.figures.specs.Figures.{IsFigure, IsFigures, IsWaitFor}
 use Rattle.figures.proofs.Laws.{frame-of}
 use Rattle.figures.proofs.Questions.{Asked, figure-fine, wait-fine}

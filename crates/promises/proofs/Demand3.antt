@@ -20,7 +20,7 @@ use Rattle.records.specs.First.{numberOf}
 use Rattle.plan.specs.declared.Plan.{Plan}
 use Rattle.plan.specs.Plan.{clientOf, ownerOf, ownOf}
 use Rattle.plan.proofs.Laws.{plan-fine, plan-pass, own-most}
-use Rattle.figures.specs.declared.Wait.the-variants as wait
+use Rattle.figures.specs.declared.WaitAnswer.the-variants as wait
 use Rattle.figures.specs.Figures.{IsWaitFor}
 use Rattle.figures.proofs.Laws.{frame-of}
 use Rattle.figures.proofs.Questions.{wait-fine}
@@ -161,18 +161,18 @@ module _ (i : ℕ) (plan other : Plan) (arb arb′ : Arbiter) (xss yss : List (L
 
 -- "never in another": a step names the owner of its slot, or nobody
 pub served-its-owner : (plan : Plan) (arb : Arbiter) (xs : List ℕ) (c : ℕ) → 0 < c
-    → clientServed (stepOf plan arb xs .answer .service) ≡ c → ownerOf plan (arb .position) ≡ c
+    → clientServed (stepOf plan arb xs .served .answer) ≡ c → ownerOf plan (arb .position) ≡ c
 served-its-owner plan arb xs c c> e =
     ⊎-elim
-    (λ (h : clientServed (stepOf plan arb xs .answer .service) ≡ 0). absurd (omega arith))
-    (λ (h : clientServed (stepOf plan arb xs .answer .service) ≡ ownerOf plan (arb .position)). sym h ∙ e)
+    (λ (h : clientServed (stepOf plan arb xs .served .answer) ≡ 0). absurd (omega arith))
+    (λ (h : clientServed (stepOf plan arb xs .served .answer) ≡ ownerOf plan (arb .position)). sym h ∙ e)
     (step-named plan arb xs)
 
 -- "none refused": no step of a run is refused exactly when its plan is in bounds, its position below f, and each of its
 -- lists has n entries
 pub refused-nowhere : (plan : Plan) (arb : Arbiter) (xss : List (List ℕ)) → 0 < length xss
     → Runs plan arb xss ↔ ((d : ℕ) → d < length xss
-    → stepNumber (stepOf plan (recordAfter plan arb (take d xss)) (getD xss d []) .answer .service) ≡ 0)
+    → stepNumber (stepOf plan (recordAfter plan arb (take d xss)) (getD xss d []) .served .answer) ≡ 0)
 unfolding recordAfter
 refused-nowhere plan arb xss some = (
   λ runs d l.

@@ -25,8 +25,8 @@ use Rattle.judge.specs.Judge.{Accepted}
 use Rattle.judge.proofs.Laws.{lengths-suffice, starts-suffice}
 use Rattle.explore.specs.Best.{Table, owned, LexLe, IsBest, NoTable}
 use Rattle.search.specs.Search.{AcceptedIn}
-use Rattle.arbiter.specs.declared.Service.{Service}
-use Rattle.arbiter.specs.declared.Service.the-variants as service
+use Rattle.arbiter.specs.declared.StepAnswer.{StepAnswer}
+use Rattle.arbiter.specs.declared.StepAnswer.the-variants as answer
 use Rattle.arbiter.specs.declared.Stepped.{Stepped}
 
 -- ---- tests
@@ -247,32 +247,32 @@ numbers-tested (x ∷ xs) (y ∷ ys) h =
     rw (eqb-true x y (b .0), numbers-tested xs ys (b .1))
 
 -- the same client served, or the same refusal
-unfoldable pub serviceTest : Service → Service → Bool
-serviceTest (service.Given a) (service.Given b) = eqb a b
-serviceTest (service.Given a) (service.Refused b) = false
-serviceTest (service.Refused a) (service.Given b) = false
-serviceTest (service.Refused a) (service.Refused b) = eqb a b
+unfoldable pub answerTest : StepAnswer → StepAnswer → Bool
+answerTest (answer.Given a) (answer.Given b) = eqb a b
+answerTest (answer.Given a) (answer.Refused b) = false
+answerTest (answer.Refused a) (answer.Given b) = false
+answerTest (answer.Refused a) (answer.Refused b) = eqb a b
 
-service-tested : (a b : Service) → serviceTest a b ≡ true → a ≡ b
-unfolding serviceTest
-service-tested (service.Given a) (service.Given b) h = ap service.Given (eqb-true a b h)
-service-tested (service.Given a) (service.Refused b) h = false-true h
-service-tested (service.Refused a) (service.Given b) h = false-true h
-service-tested (service.Refused a) (service.Refused b) h = ap service.Refused (eqb-true a b h)
+answer-tested : (a b : StepAnswer) → answerTest a b ≡ true → a ≡ b
+unfolding answerTest
+answer-tested (answer.Given a) (answer.Given b) h = ap answer.Given (eqb-true a b h)
+answer-tested (answer.Given a) (answer.Refused b) h = false-true h
+answer-tested (answer.Refused a) (answer.Given b) h = false-true h
+answer-tested (answer.Refused a) (answer.Refused b) h = ap answer.Refused (eqb-true a b h)
 
 -- r and s give the same
 unfoldable pub stepTest : Stepped → Stepped → Bool
 stepTest r s =
     pick
-    (pick (serviceTest (r .answer .service) (s .answer .service))
-    (numbersTest (r .answer .turned) (s .answer .turned)) false)
+    (pick (answerTest (r .served .answer) (s .served .answer))
+    (numbersTest (r .served .turned) (s .served .turned)) false)
     (pick (eqb (r .next .position) (s .next .position)) (numbersTest (r .next .pending) (s .next .pending)) false)
     false
 
-stepped-alike : (a b : Service) (t u : List ℕ) (x y : ℕ) (p q : List ℕ) → a ≡ b → t ≡ u → x ≡ y → p ≡ q
+stepped-alike : (a b : StepAnswer) (t u : List ℕ) (x y : ℕ) (p q : List ℕ) → a ≡ b → t ≡ u → x ≡ y → p ≡ q
     → _≡_ {A = Stepped}
-    (record { answer = record { service = a; turned = t }; next = record { position = x; pending = p } })
-    (record { answer = record { service = b; turned = u }; next = record { position = y; pending = q } })
+    (record { served = record { answer = a; turned = t }; next = record { position = x; pending = p } })
+    (record { served = record { answer = b; turned = u }; next = record { position = y; pending = q } })
 stepped-alike a b t u x y p q e f g h = rw (e, f, g, h)
 
 pub step-tested : (r s : Stepped) → stepTest r s ≡ true → r ≡ s
@@ -281,5 +281,5 @@ step-tested r s h =
     let b = both-true _ _ h in
     let said = both-true _ _ (b .0) in
     let left = both-true _ _ (b .1) in
-    stepped-alike _ _ _ _ _ _ _ _ (service-tested _ _ (said .0)) (numbers-tested _ _ (said .1))
+    stepped-alike _ _ _ _ _ _ _ _ (answer-tested _ _ (said .0)) (numbers-tested _ _ (said .1))
     (eqb-true _ _ (left .0)) (numbers-tested _ _ (left .1))

@@ -7,13 +7,13 @@ use Rattle.records.specs.Pieces.{firsts, onto, padded}
 use Rattle.records.specs.Record.{recordCheck, overCheck}
 use Rattle.plan.specs.Check.{clientCheck, ownerCheck}
 use Rattle.stream.specs.Kind.{classOf}
-use Rattle.stream.specs.Read.{after, place, dueCheck, headRead, clientAt, numberCheck, clientRead, clientDue}
-use Rattle.stream.specs.Read.{slotCheck, slotDue, rowRead, rowDue, endRead, restRead, readCheck}
-use Rattle.stream.specs.Read.{clientIn, ownerIn, planOf, readOf}
+use Rattle.stream.specs.Read.{nextPlace, place, dueCheck, headRecordCheck, clientAt, numberCheck, clientRecordCheck}
+use Rattle.stream.specs.Read.{clientDueCheck, slotCheck, slotDueCheck, rowRecordCheck, rowDueCheck, endRecordCheck}
+use Rattle.stream.specs.Read.{restCheck, readCheck, clientIn, ownerIn, planOf, readOf}
 use Rattle.promises.specs.Readings.{Example, examples}
 
 pub worked : map (λ (e : Example). readOf (e .stream)) examples ≡ map (λ (e : Example). e .reading) examples
-unfolding examples readOf readCheck headRead restRead endRead dueCheck recordCheck overCheck classOf firstOf
-    clientDue clientRead numberCheck clientCheck clientAt rowDue rowRead slotDue slotCheck ownerCheck
-    rangeCheck after place planOf clientIn ownerIn firsts onto padded
+unfolding examples readOf readCheck headRecordCheck restCheck endRecordCheck dueCheck recordCheck overCheck classOf
+    firstOf clientDueCheck clientRecordCheck numberCheck clientCheck clientAt rowDueCheck rowRecordCheck slotDueCheck
+    slotCheck ownerCheck rangeCheck nextPlace place planOf clientIn ownerIn firsts onto padded
 worked = refl

@@ -13,13 +13,13 @@ use Rattle.plan.specs.declared.Client.{Client}
 use Rattle.plan.specs.declared.Plan.{Plan}
 use Rattle.plan.specs.Plan.{noClient}
 use Rattle.figures.specs.Figures.{figuresNumber, figureIn, IsFigures, waitNumber, waitIn, IsWaitFor}
-use Rattle.judge.specs.declared.Judged.the-variants as judged
+use Rattle.judge.specs.declared.JudgeAnswer.the-variants as judged
 use Rattle.judge.specs.declared.Verdict.the-variants.{Late}
 use Rattle.judge.specs.Judge.{acceptance, IsJudged}
-use Rattle.search.specs.declared.Finding.the-variants as finding
+use Rattle.search.specs.declared.SearchAnswer.the-variants as finding
 use Rattle.search.specs.Search.{idlePlan, IsSearched}
 use Rattle.arbiter.specs.declared.Arbiter.{Arbiter}
-use Rattle.arbiter.specs.declared.Service.the-variants.{Given}
+use Rattle.arbiter.specs.declared.StepAnswer.the-variants.{Given}
 use Rattle.arbiter.specs.declared.Stepped.{Stepped}
 use Rattle.arbiter.specs.Step.{refusedStep, stepOf}
 
@@ -148,7 +148,7 @@ holding position a b = record { position = position; pending = counts a b }
 
 -- a step that serves this client, or 0, with so many turned away, and leaves this record
 abbrev pub serving : ℕ → List ℕ → Arbiter → Stepped
-serving client turned next = record { answer = record { service = Given client; turned = turned }; next = next }
+serving client turned next = record { served = record { answer = Given client; turned = turned }; next = next }
 
 -- P1 to P6, the schedule of the second slip, and the paper's; P7 and P8, late by the stretch that begins in slot
 -- 3 and has one slot in five; P9 and P10, 11 to 13. Two more steps: slot 3 is client 2's, who has nothing pending, and

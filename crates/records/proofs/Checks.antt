@@ -12,7 +12,7 @@ use lib.Dec.{ltb, leb, eqb}
 use lib.ListN.{length}
 use borrow.Author.Tests.{ltb-true, ltb-false, leb-true, eqb-true, lt-ltb, le-ltb, le-leb, lt-leb, eq-eqb, ne-eqb}
 use Rattle.records.specs.Refusal as refusal
-use Rattle.records.specs.First.{pick, between, need, rangeCheck, orElse, firstOf, numberOf, RefusedBy}
+use Rattle.records.specs.First.{pick, between, unless, rangeCheck, orElse, firstOf, numberOf, RefusedBy}
 use Rattle.records.specs.Record.{recordCheck, overCheck}
 use Rattle.records.specs.declared.Outcome.{Outcome}
 use Rattle.records.specs.declared.Outcome.the-variants.{Fine, Refused}
@@ -58,13 +58,13 @@ between-true low x high h =
 pub not-fine : {A : Type 0} {k offset : ℕ} → Refused k offset ≡ Fine → A
 not-fine {A} {k} {offset} h = let z : _≡_ {A = ℕ} 0 1 = cc in absurd (omega arith)
 
-pub need-fine : (b : Bool) (k offset : ℕ) → need b k offset ≡ Fine → b ≡ true
-need-fine true k offset h = refl
-need-fine false k offset h = not-fine h
+pub unless-fine : (b : Bool) (k offset : ℕ) → unless b k offset ≡ Fine → b ≡ true
+unless-fine true k offset h = refl
+unless-fine false k offset h = not-fine h
 
 pub range-fine : (x high k : ℕ) → rangeCheck x high k ≡ Fine → (1 ≤ x) × (x ≤ high)
 unfolding rangeCheck
-range-fine x high k h = between-true 1 x high (need-fine (between 1 x high) k 0 h)
+range-fine x high k h = between-true 1 x high (unless-fine (between 1 x high) k 0 h)
 
 pub range-pass : (x high k : ℕ) → 1 ≤ x → x ≤ high → rangeCheck x high k ≡ Fine
 unfolding rangeCheck
@@ -143,9 +143,9 @@ unfolding recordCheck
 record-fine s at class body h =
     let a = both-fine _ _ h in
     let b = both-fine _ _ (a .1) in
-    let l : at < length s = ltb-true _ _ (need-fine _ _ _ (a .0)) in
-    let r : body < length s - at = ltb-true _ _ (need-fine _ _ _ (b .1)) in
-    (eqb-true _ _ (need-fine _ _ _ (b .0)), omega arith)
+    let l : at < length s = ltb-true _ _ (unless-fine _ _ _ (a .0)) in
+    let r : body < length s - at = ltb-true _ _ (unless-fine _ _ _ (b .1)) in
+    (eqb-true _ _ (unless-fine _ _ _ (b .0)), omega arith)
 
 pub record-pass : (s : List ℕ) (at class body : ℕ) → class ≡ 0 → at + (1 + body) ≤ length s
     → recordCheck s at class body ≡ Fine
@@ -154,7 +154,7 @@ record-pass s at class body e h =
     simp (lt-ltb at (length s) (omega arith), eq-eqb class 0 e, lt-ltb body (length s - at) (omega arith))
 
 body-by : (b : Bool) (x y z : Outcome) (k offset : ℕ) → (b ≡ true → y ≡ z)
-    → orElse x (orElse (need b k offset) y) ≡ orElse x (orElse (need b k offset) z)
+    → orElse x (orElse (unless b k offset) y) ≡ orElse x (orElse (unless b k offset) z)
 body-by true x y z k offset h = rw (h refl)
 body-by false x y z k offset h = refl
 
@@ -163,13 +163,13 @@ pub record-body : (s : List ℕ) (at class one other : ℕ) → (class ≡ 0 →
     → recordCheck s at class one ≡ recordCheck s at class other
 unfolding recordCheck
 record-body s at class one other h =
-    let kind = need (ltb at (length s)) refusal.ended (length s) in
-    let body : ℕ → Outcome = λ n. need (ltb n (length s - at)) refusal.ended at in
+    let kind = unless (ltb at (length s)) refusal.ended (length s) in
+    let body : ℕ → Outcome = λ n. unless (ltb n (length s - at)) refusal.ended at in
     body-by (eqb class 0) kind (body one) (body other) class at (λ e. ap body (h (eqb-true class 0 e)))
 
 pub over-fine : (s : List ℕ) (at : ℕ) → overCheck s at ≡ Fine → length s ≤ at
 unfolding overCheck
-over-fine s at h = leb-true _ _ (need-fine _ _ _ h)
+over-fine s at h = leb-true _ _ (unless-fine _ _ _ h)
 
 pub over-pass : (s : List ℕ) (at : ℕ) → length s ≤ at → overCheck s at ≡ Fine
 unfolding overCheck

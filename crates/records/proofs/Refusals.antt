@@ -11,7 +11,7 @@ use lib.Dec.{ltb, leb, eqb}
 use lib.ListN.{length}
 use borrow.Author.Tests.{eqb-false, leb-false}
 use Rattle.records.specs.Refusal as refusal
-use Rattle.records.specs.First.{between, need, rangeCheck, orElse, firstOf, numberOf, offsetOf, Numbered}
+use Rattle.records.specs.First.{between, unless, rangeCheck, orElse, firstOf, numberOf, offsetOf, Numbered}
 use Rattle.records.specs.Record.{recordCheck, overCheck}
 use Rattle.records.specs.declared.Outcome.{Outcome}
 use Rattle.records.specs.declared.Outcome.the-variants.{Fine, Refused}
@@ -39,20 +39,20 @@ first-each P z g h n = first-reached P z g n (λ i l e. h i)
 
 -- ---- numbers
 
-pub need-numbered : (most : ℕ) (b : Bool) (k offset : ℕ) → 1 ≤ k → k ≤ most → Numbered most (need b k offset)
-need-numbered most true k offset l h = inl refl
-need-numbered most false k offset l h = inr (l, h)
+pub unless-numbered : (most : ℕ) (b : Bool) (k offset : ℕ) → 1 ≤ k → k ≤ most → Numbered most (unless b k offset)
+unless-numbered most true k offset l h = inl refl
+unless-numbered most false k offset l h = inr (l, h)
 
 pub range-numbered : (most x high k : ℕ) → 1 ≤ k → k ≤ most → Numbered most (rangeCheck x high k)
 unfolding rangeCheck
-range-numbered most x high k l h = need-numbered most (between 1 x high) k 0 l h
+range-numbered most x high k l h = unless-numbered most (between 1 x high) k 0 l h
 
 -- a number 0 says that nothing is refused
 pub numbered-fine : (most : ℕ) (o : Outcome) → Numbered most o → numberOf o ≡ 0 → o ≡ Fine
 numbered-fine most o (inl e) z = e
 numbered-fine most o (inr h) z = absurd (omega (arith, h .0))
 
-class-numbered : (most class at : ℕ) (b : Bool) → eqb class 0 ≡ b → class ≤ most → Numbered most (need b class at)
+class-numbered : (most class at : ℕ) (b : Bool) → eqb class 0 ≡ b → class ≤ most → Numbered most (unless b class at)
 class-numbered most class at true e h = inl refl
 class-numbered most zero at false e h = absurd (eqb-false zero 0 e refl)
 class-numbered most (suc k) at false e h = inr (omega arith, h)
@@ -61,37 +61,37 @@ pub record-numbered : (most : ℕ) (s : List ℕ) (at class body : ℕ) → 1 �
     → Numbered most (recordCheck s at class body)
 unfolding recordCheck
 record-numbered most s at class body l h =
-    let begun : Outcome = need (ltb at (length s)) refusal.ended (length s) in
-    let due : Outcome = need (eqb class 0) class at in
-    let whole : Outcome = need (ltb body (length s - at)) refusal.ended at in
+    let begun : Outcome = unless (ltb at (length s)) refusal.ended (length s) in
+    let due : Outcome = unless (eqb class 0) class at in
+    let whole : Outcome = unless (ltb body (length s - at)) refusal.ended at in
     or-each (Numbered most) begun (orElse due whole)
-    (need-numbered most (ltb at (length s)) refusal.ended (length s) (omega arith) l)
+    (unless-numbered most (ltb at (length s)) refusal.ended (length s) (omega arith) l)
     (or-each (Numbered most) due whole (class-numbered most class at (eqb class 0) refl h)
-    (need-numbered most (ltb body (length s - at)) refusal.ended at (omega arith) l))
+    (unless-numbered most (ltb body (length s - at)) refusal.ended at (omega arith) l))
 
 pub over-numbered : (most : ℕ) (s : List ℕ) (at : ℕ) → refusal.followed ≤ most → Numbered most (overCheck s at)
 unfolding overCheck
-over-numbered most s at h = need-numbered most (leb (length s) at) refusal.followed at (omega arith) h
+over-numbered most s at h = unless-numbered most (leb (length s) at) refusal.followed at (omega arith) h
 
 -- ---- offsets
 
-pub need-within : (most : ℕ) (b : Bool) (k offset : ℕ) → offset ≤ most → offsetOf (need b k offset) ≤ most
-need-within most true k offset h = omega arith
-need-within most false k offset h = h
+pub unless-within : (most : ℕ) (b : Bool) (k offset : ℕ) → offset ≤ most → offsetOf (unless b k offset) ≤ most
+unless-within most true k offset h = omega arith
+unless-within most false k offset h = h
 
 pub record-within : (s : List ℕ) (at class body : ℕ) → at ≤ length s → offsetOf (recordCheck s at class body) ≤ length s
 unfolding recordCheck
 record-within s at class body h =
     let In : Outcome → Type 0 = λ (o : Outcome). offsetOf o ≤ length s in
-    let begun : Outcome = need (ltb at (length s)) refusal.ended (length s) in
-    let due : Outcome = need (eqb class 0) class at in
-    let whole : Outcome = need (ltb body (length s - at)) refusal.ended at in
-    or-each In begun (orElse due whole) (need-within (length s) (ltb at (length s)) refusal.ended (length s)
+    let begun : Outcome = unless (ltb at (length s)) refusal.ended (length s) in
+    let due : Outcome = unless (eqb class 0) class at in
+    let whole : Outcome = unless (ltb body (length s - at)) refusal.ended at in
+    or-each In begun (orElse due whole) (unless-within (length s) (ltb at (length s)) refusal.ended (length s)
     (omega arith))
-    (or-each In due whole (need-within (length s) (eqb class 0) class at h)
-    (need-within (length s) (ltb body (length s - at)) refusal.ended at h))
+    (or-each In due whole (unless-within (length s) (eqb class 0) class at h)
+    (unless-within (length s) (ltb body (length s - at)) refusal.ended at h))
 
-over-by : (n at : ℕ) (b : Bool) → leb n at ≡ b → offsetOf (need b refusal.followed at) ≤ n
+over-by : (n at : ℕ) (b : Bool) → leb n at ≡ b → offsetOf (unless b refusal.followed at) ≤ n
 over-by n at true e = omega arith
 over-by n at false e = omega (arith, leb-false n at e)
 
@@ -99,10 +99,10 @@ pub over-within : (s : List ℕ) (at : ℕ) → offsetOf (overCheck s at) ≤ le
 unfolding overCheck
 over-within s at = over-by (length s) at (leb (length s) at) refl
 
-pub need-unread : (b : Bool) (k : ℕ) → offsetOf (need b k 0) ≡ 0
-need-unread true k = refl
-need-unread false k = refl
+pub unless-unread : (b : Bool) (k : ℕ) → offsetOf (unless b k 0) ≡ 0
+unless-unread true k = refl
+unless-unread false k = refl
 
 pub range-unread : (x high k : ℕ) → offsetOf (rangeCheck x high k) ≡ 0
 unfolding rangeCheck
-range-unread x high k = need-unread (between 1 x high) k
+range-unread x high k = unless-unread (between 1 x high) k

@@ -17,13 +17,13 @@ abbrev pub between : ℕ → ℕ → ℕ → Bool
 between low x high = pick (leb low x) (leb x high) false
 
 -- refusal k at this offset, unless the test is true
-abbrev pub need : Bool → ℕ → ℕ → Outcome
-need true k offset = Fine
-need false k offset = Refused k offset
+abbrev pub unless : Bool → ℕ → ℕ → Outcome
+unless true k offset = Fine
+unless false k offset = Refused k offset
 
 -- refusal k where x is not 1 to high, outside reading
 unfoldable pub rangeCheck : ℕ → ℕ → ℕ → Outcome
-rangeCheck x high k = need (between 1 x high) k 0
+rangeCheck x high k = unless (between 1 x high) k 0
 
 -- the first check's refusal, else what the second check finds
 abbrev pub orElse : Outcome → Outcome → Outcome

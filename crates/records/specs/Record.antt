@@ -4,7 +4,7 @@ use Prim.Native.Nat.{ℕ, _+_, _-_, _*_, _/_, _%_}
 use lib.Dec.{ltb, leb, eqb}
 use lib.ListN.{length, getD}
 use Rattle.records.specs.Refusal as refusal
-use Rattle.records.specs.First.{need, orElse}
+use Rattle.records.specs.First.{unless, orElse}
 use Rattle.records.specs.declared.Outcome.{Outcome}
 
 -- "Numbers of two bytes have the high byte first": the bytes of a number
@@ -19,9 +19,9 @@ word s at = getD s at 0 * 256 + getD s (at + 1) 0
 -- a missing kind byte is refused at the stream's length, all else at the record's kind byte
 unfoldable pub recordCheck : List ℕ → ℕ → ℕ → ℕ → Outcome
 recordCheck s at class body =
-    orElse (need (ltb at (length s)) refusal.ended (length s))
-    (orElse (need (eqb class 0) class at) (need (ltb body (length s - at)) refusal.ended at))
+    orElse (unless (ltb at (length s)) refusal.ended (length s))
+    (orElse (unless (eqb class 0) class at) (unless (ltb body (length s - at)) refusal.ended at))
 
 -- "bytes follow the end record": 4, at the first byte too many
 unfoldable pub overCheck : List ℕ → ℕ → Outcome
-overCheck s at = need (leb (length s) at) refusal.followed at
+overCheck s at = unless (leb (length s) at) refusal.followed at

@@ -18,14 +18,14 @@ use Rattle.plan.specs.declared.Plan.{Plan}
 use Rattle.plan.specs.Plan.{ownerOf, ownOf}
 use Rattle.plan.proofs.Laws.{own-most}
 use Rattle.explore.specs.Best.{Table, owned, IsBest, NoTable, BestOf}
-use Rattle.explore.specs.Needs.{Fits}
+use Rattle.explore.specs.Needs.{NoneInNeed}
 use Rattle.search.specs.Search.{idlePlan, AcceptedIn, Finds}
 use Rattle.search.specs.Mend.{Mends, idleOf}
 use Rattle.search.specs.Trees.{filledAt, filled, Planted}
 use Rattle.search.proofs.Fillings.{idle, fill, rest, tableOf, table-long, table-idle, filled-fill, fill-long}
 use Rattle.search.proofs.Fillings.{rest-long, rest-most, fill-rest, fill-most, fill-owned, fill-lex, get-filled}
 use Rattle.search.proofs.Sets.{filled-front, slot-kept}
-use Rattle.search.proofs.Planting.{fits-accepted, accepted-fits}
+use Rattle.search.proofs.Planting.{no-need-accepted, accepted-no-need}
 
 -- ---- the best of two properties that tables share
 
@@ -79,23 +79,23 @@ module _ (plan : Plan) (g : ℕ) (trees : List ℕ) (room : plan .f ≤ length (
     filled-again : fill o (rest o u) ≡ u
     filled-again = fill-rest o u (table .long ∙ sym (table-long plan room)) kept
 
-    suits-all : Fits trees (plan .n) (rest o u)
+    suits-all : NoneInNeed trees (plan .n) (rest o u)
     suits-all =
-        accepted-fits plan g trees g≤ planted (rest o u) (given .long)
+        accepted-no-need plan g trees g≤ planted (rest o u) (given .long)
         (rw (filled-fill plan room (rest o u), filled-again) (mends .accepted))
 
     owned-more : owned u ≡ owned o + owned (rest o u)
     owned-more = ap owned (sym filled-again) ∙ fill-owned o (rest o u) (given .long ∙ g= ∙ sym (table-idle plan room))
 
   -- the best filling makes the best table
-  filled-mends : (v : List ℕ) → Table g (plan .n) v → Fits trees (plan .n) v → Mends plan (filled plan v)
+  filled-mends : (v : List ℕ) → Table g (plan .n) v → NoneInNeed trees (plan .n) v → Mends plan (filled plan v)
   filled-mends v table suits =
       record {
         kept = λ x l owned. get-filled plan v x l ∙ slot-kept plan v x owned;
-        accepted = fits-accepted plan g trees g≤ planted v (table .long) suits;
+        accepted = no-need-accepted plan g trees g≤ planted v (table .long) suits;
       }
 
-  best-mends : (v : List ℕ) → IsBest (Fits trees (plan .n)) g (plan .n) v
+  best-mends : (v : List ℕ) → IsBest (NoneInNeed trees (plan .n)) g (plan .n) v
       → IsBest (Mends plan) (plan .f) (plan .n) (filled plan v)
   best-mends v best =
       let e = filled-fill plan room v in
@@ -115,14 +115,15 @@ module _ (plan : Plan) (g : ℕ) (trees : List ℕ) (room : plan .f ≤ length (
             rw (e, ← filled-again u t m) (fill-lex o v (rest o u) v= rest= before);
       }
 
-  none-mends : NoTable (Fits trees (plan .n)) g (plan .n) → NoTable (Mends plan) (plan .f) (plan .n)
+  none-mends : NoTable (NoneInNeed trees (plan .n)) g (plan .n) → NoTable (Mends plan) (plan .f) (plan .n)
   none-mends none u t m = none (rest o u) (given u t m) (suits-all u t m)
 
   -- what was found is returned with 0 past f
-  pub mended : (found : Bool) (u : List ℕ) → found ≡ true → BestOf (Fits trees (plan .n)) g (plan .n) found (take g u)
+  pub mended : (found : Bool) (u : List ℕ) → found ≡ true
+      → BestOf (NoneInNeed trees (plan .n)) g (plan .n) found (take g u)
       → Finds (Mends plan) (plan .f) (plan .n) true (padded (filledAt plan u) (plan .f) 64 0)
   mended found u e best =
-      let right : IsBest (Fits trees (plan .n)) g (plan .n) (take g u) = rw e at best in
+      let right : IsBest (NoneInNeed trees (plan .n)) g (plan .n) (take g u) = rw e at best in
       let same : filled plan u ≡ filled plan (take g u) =
       rw g= (firsts-same (filledAt plan u) (filledAt plan (take (idleOf plan) u)) (plan .f) (filled-front plan u)) in (
         rw (take-padded (filledAt plan u) (plan .f) 64 0, same) (best-mends (take g u) right),
@@ -130,10 +131,10 @@ module _ (plan : Plan) (g : ℕ) (trees : List ℕ) (room : plan .f ≤ length (
       )
 
   pub not-mended : (found : Bool) (u : List ℕ) → found ≡ false
-      → BestOf (Fits trees (plan .n)) g (plan .n) found (take g u)
+      → BestOf (NoneInNeed trees (plan .n)) g (plan .n) found (take g u)
       → Finds (Mends plan) (plan .f) (plan .n) false (replicate 64 0)
   not-mended found u e best =
-      let none : NoTable (Fits trees (plan .n)) g (plan .n) = rw e at best in
+      let none : NoTable (NoneInNeed trees (plan .n)) g (plan .n) = rw e at best in
       (none-mends none, refl)
 
 -- ---- an idle table

@@ -11,8 +11,8 @@ use Rattle.records.proofs.Checks.{refused-number, refused-fine}
 use Rattle.plan.specs.declared.Plan.{Plan}
 use Rattle.explore.specs.Best.{IsBest, NoTable}
 use Rattle.explore.proofs.Order.{best-one}
-use Rattle.search.specs.declared.Finding.{Finding}
-use Rattle.search.specs.declared.Finding.the-variants as finding
+use Rattle.search.specs.declared.SearchAnswer.{SearchAnswer}
+use Rattle.search.specs.declared.SearchAnswer.the-variants as finding
 use Rattle.search.specs.declared.Searched.{Searched}
 use Rattle.search.specs.Search.{searchCheck, AcceptedIn, Finds, SearchedAs, IsSearched, searchedNumber}
 
@@ -34,7 +34,7 @@ finds-one P f n false true s t x y = absurd (not-none P f n _ (y .0) (x .0))
 finds-one P f n false false s t x y = (refl, x .1 ∙ sym (y .1))
 
 module _ (plan : Plan) where
-  answers-one : (a b : Finding) (s t : List ℕ) → SearchedAs plan a s → SearchedAs plan b t → (a ≡ b) × (s ≡ t)
+  answers-one : (a b : SearchAnswer) (s t : List ℕ) → SearchedAs plan a s → SearchedAs plan b t → (a ≡ b) × (s ≡ t)
   answers-one finding.Found finding.Found s t x y =
       (refl, finds-one (AcceptedIn plan) (plan .f) (plan .n) true true s t (x .1) (y .1) .1)
   answers-one finding.Found finding.None s t x y = absurd (not-none (AcceptedIn plan) _ _ _ (x .1 .0) (y .1 .0))
@@ -49,11 +49,11 @@ module _ (plan : Plan) where
       let number = refused-number (searchCheck plan) j (x .0) ∙ sym (refused-number (searchCheck plan) k (y .0)) in
       (ap finding.Refused number, x .1 ∙ sym (y .1))
 
-  searched-alike : (a b : Finding) (s t : List ℕ) → (a ≡ b) × (s ≡ t)
+  searched-alike : (a b : SearchAnswer) (s t : List ℕ) → (a ≡ b) × (s ≡ t)
       → _≡_ {A = Searched} (record { answer = a; owners = s }) (record { answer = b; owners = t })
   searched-alike a b s t e = rw (e .0, e .1)
 
-  pub searched-number : (a : Finding) (owners : List ℕ) → SearchedAs plan a owners
+  pub searched-number : (a : SearchAnswer) (owners : List ℕ) → SearchedAs plan a owners
       → searchedNumber a ≡ numberOf (searchCheck plan)
   searched-number finding.Found owners x = sym (ap numberOf (x .0))
   searched-number finding.None owners x = sym (ap numberOf (x .0))

@@ -1,4 +1,4 @@
--- The trees: filled from the end they are right, for a node's number rests on the nodes below it, which stand after it.
+-- The trees: filled from the end they are right, for a node's need rests on the nodes below it, which stand after it.
 -- They are sound, and a filling suits all clients exactly where the table that it makes is accepted.
 -- Assumes nothing.
 use mathlib.Core.Path.{_≡_, refl, ap}
@@ -11,17 +11,17 @@ use native.Mathlib.Omega.{arith}
 use lib.ListN.{length, set}
 use lib.Seq.{getD-set-same, getD-set-other}
 use Rattle.plan.specs.declared.Plan.{Plan}
-use Rattle.explore.specs.Needs.{nodeOf, needAt, Fits, Sound}
+use Rattle.explore.specs.Needs.{nodeOf, needAt, NoneInNeed, Sound}
 use Rattle.explore.proofs.Needs.{node-least, node-below}
 use Rattle.search.specs.Search.{AcceptedIn}
-use Rattle.search.specs.Trees.{filled, Suits, IsNumber, Planted}
+use Rattle.search.specs.Trees.{filled, Suits, IsNeed, Planted}
 
 -- ---- from the end
 
--- a number stored at z or before moves nothing that node x looks at
-number-kept : (plan : Plan) (g : ℕ) (trees : List ℕ) (z new i x number : ℕ) → z ≤ i * 512 + x
-    → IsNumber plan g trees i x number → IsNumber plan g (set trees z new) i x number
-number-kept plan g trees z new i x number l is =
+-- a need stored at z or before moves nothing that node x looks at
+need-kept : (plan : Plan) (g : ℕ) (trees : List ℕ) (z new i x need : ℕ) → z ≤ i * 512 + x
+    → IsNeed plan g trees i x need → IsNeed plan g (set trees z new) i x need
+need-kept plan g trees z new i x need l is =
     record {
       above = λ x> x<.
           rw (
@@ -34,25 +34,25 @@ number-kept plan g trees z new i x number l is =
 
 -- the numbers from place z on are right
 pub record RightFrom (plan : Plan) (g n : ℕ) (trees : List ℕ) (z : ℕ) : Type 0 where
-  pub right : (i x : ℕ) → i < n → x < 512 → z ≤ i * 512 + x → IsNumber plan g trees i x (needAt trees i x)
+  pub right : (i x : ℕ) → i < n → x < 512 → z ≤ i * 512 + x → IsNeed plan g trees i x (needAt trees i x)
 
 -- one more, before them
 pub right-more : (plan : Plan) (g n : ℕ) (trees : List ℕ) (z new : ℕ) → z < length trees
-    → RightFrom plan g n trees (z + 1) → IsNumber plan g trees (z / 512) (z % 512) new
+    → RightFrom plan g n trees (z + 1) → IsNeed plan g trees (z / 512) (z % 512) new
     → RightFrom plan g n (set trees z new) z
 right-more plan g n trees z new l done is =
     record { right = λ i x i< x< z≤. by i x i< x< z≤ (ℕ-discrete (i * 512 + x) z) }
   where
     by : (i x : ℕ) → i < n → x < 512 → z ≤ i * 512 + x → Dec (i * 512 + x ≡ z)
-        → IsNumber plan g (set trees z new) i x (needAt (set trees z new) i x)
+        → IsNeed plan g (set trees z new) i x (needAt (set trees z new) i x)
     by i x i< x< z≤ (yes e) =
         let client : z / 512 ≡ i = omega arith in
         let node : z % 512 ≡ x = omega arith in
-        let here : IsNumber plan g trees i x new = rw (client, node) at is in
-        rw (e, getD-set-same trees z new 0 l) (number-kept plan g trees z new i x new z≤ here)
+        let here : IsNeed plan g trees i x new = rw (client, node) at is in
+        rw (e, getD-set-same trees z new 0 l) (need-kept plan g trees z new i x new z≤ here)
     by i x i< x< z≤ (no e) =
         rw (getD-set-other trees z (i * 512 + x) new 0 e)
-        (number-kept plan g trees z new i x (needAt trees i x) z≤ (done .right i x i< x< (omega arith)))
+        (need-kept plan g trees z new i x (needAt trees i x) z≤ (done .right i x i< x< (omega arith)))
 
 -- ---- sound
 
@@ -80,11 +80,11 @@ module _ (plan : Plan) (g : ℕ) (trees : List ℕ) (g≤ : g ≤ 8) (planted : 
   leaf-suits i l =
       let x = nodeOf (i + 1) v in
       let low : 2 ^ g ≤ x = rw long at (node-least (i + 1) v) in
-      let number = planted .right i x l (node-below (i + 1) v 9 (omega arith)) in
-      number .leaf low v long refl
+      let need = planted .right i x l (node-below (i + 1) v 9 (omega arith)) in
+      need .leaf low v long refl
 
-  pub fits-accepted : Fits trees (plan .n) v → AcceptedIn plan (filled plan v)
-  fits-accepted fits = record { each = λ i low l. leaf-suits i l .ok (fits .each i l) }
+  pub no-need-accepted : NoneInNeed trees (plan .n) v → AcceptedIn plan (filled plan v)
+  no-need-accepted fits = record { each = λ i low l. leaf-suits i l .ok (fits .each i l) }
 
-  pub accepted-fits : AcceptedIn plan (filled plan v) → Fits trees (plan .n) v
-  accepted-fits accepted = record { each = λ i l. leaf-suits i l .zero-if (accepted .each i (omega arith) l) }
+  pub accepted-no-need : AcceptedIn plan (filled plan v) → NoneInNeed trees (plan .n) v
+  accepted-no-need accepted = record { each = λ i l. leaf-suits i l .zero-if (accepted .each i (omega arith) l) }

@@ -7,10 +7,10 @@ use native.Mathlib.Omega.{arith}
 use lib.Dec.{leb}
 use borrow.Author.Tests.{le-leb, lt-leb, leb-true}
 use Rattle.records.specs.Refusal as refusal
-use Rattle.records.specs.First.{need, Numbered}
+use Rattle.records.specs.First.{unless, Numbered}
 use Rattle.records.specs.declared.Outcome.the-variants as outcome
-use Rattle.records.proofs.Checks.{both-fine, need-fine}
-use Rattle.records.proofs.Refusals.{or-each, need-numbered}
+use Rattle.records.proofs.Checks.{both-fine, unless-fine}
+use Rattle.records.proofs.Refusals.{or-each, unless-numbered}
 use Rattle.plan.specs.declared.Plan.{Plan}
 use Rattle.plan.specs.Check.{requirementsCheck}
 use Rattle.plan.proofs.Refusals.{requirements-numbered}
@@ -40,11 +40,11 @@ pub search-fine : (plan : Plan) → searchCheck plan ≡ outcome.Fine → Search
 unfolding searchCheck sizeCheck
 search-fine plan h =
     let a = both-fine (requirementsCheck plan) (sizeCheck plan) h in
-    let size = both-fine (need (leb (plan .f) mostSlots) refusal.tooLarge 0) _ (a .1) in
+    let size = both-fine (unless (leb (plan .f) mostSlots) refusal.tooLarge 0) _ (a .1) in
     record {
       bounds = requirements-fine plan (a .0);
-      short = leb-true (plan .f) mostSlots (need-fine _ refusal.tooLarge 0 (size .0));
-      few = leb-true (plan .n) mostClients (need-fine _ refusal.tooLarge 0 (size .1));
+      short = leb-true (plan .f) mostSlots (unless-fine _ refusal.tooLarge 0 (size .0));
+      few = leb-true (plan .n) mostClients (unless-fine _ refusal.tooLarge 0 (size .1));
     }
 
 pub search-pass : (plan : Plan) → Searchable plan → searchCheck plan ≡ outcome.Fine
@@ -57,6 +57,6 @@ unfolding searchCheck sizeCheck
 search-numbered most h plan =
     or-each (Numbered most) (requirementsCheck plan) (sizeCheck plan)
     (requirements-numbered most (omega arith) plan)
-    (or-each (Numbered most) (need (leb (plan .f) mostSlots) refusal.tooLarge 0) _
-    (need-numbered most (leb (plan .f) mostSlots) refusal.tooLarge 0 (omega arith) h)
-    (need-numbered most (leb (plan .n) mostClients) refusal.tooLarge 0 (omega arith) h))
+    (or-each (Numbered most) (unless (leb (plan .f) mostSlots) refusal.tooLarge 0) _
+    (unless-numbered most (leb (plan .f) mostSlots) refusal.tooLarge 0 (omega arith) h)
+    (unless-numbered most (leb (plan .n) mostClients) refusal.tooLarge 0 (omega arith) h))

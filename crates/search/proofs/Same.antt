@@ -14,8 +14,8 @@ use Rattle.plan.specs.declared.Plan.{Plan}
 use Rattle.plan.specs.Plan.{noClient, Same, withTable}
 use Rattle.plan.proofs.Laws.{requirements-same}
 use Rattle.judge.proofs.Same.{all-same}
-use Rattle.search.specs.declared.Finding.{Finding}
-use Rattle.search.specs.declared.Finding.the-variants as finding
+use Rattle.search.specs.declared.SearchAnswer.{SearchAnswer}
+use Rattle.search.specs.declared.SearchAnswer.the-variants as finding
 use Rattle.search.specs.Search.{idlePlan, searchCheck, sizeCheck, AcceptedIn, Finds, SearchedAs}
 use Rattle.search.proofs.Questions.{search-fine}
 use Rattle.search.proofs.Mending.{finds-same}
@@ -50,7 +50,7 @@ module _ (f n : ℕ) (cs ds : List Client) (alike : (i : ℕ) → i < n → getD
       all-same plan other same f> 0 n (omega arith)
 
 pub searched-same : (f n : ℕ) (cs ds : List Client) → ((i : ℕ) → i < n → getD cs i noClient ≡ getD ds i noClient)
-    → (a : Finding) (owners : List ℕ) → SearchedAs (idlePlan f n cs) a owners → SearchedAs (idlePlan f n ds) a owners
+    → (a : SearchAnswer) (owners : List ℕ) → SearchedAs (idlePlan f n cs) a owners → SearchedAs (idlePlan f n ds) a owners
 searched-same f n cs ds alike a owners = by a
   where
     P : List ℕ → Type 0
@@ -68,7 +68,7 @@ searched-same f n cs ds alike a owners = by a
         finds-same P Q f n (λ t table. accepted-same f n cs ds alike t f>)
         (λ t table. accepted-same f n ds cs (λ i l. sym (alike i l)) t f>) found owners
 
-    by : (a : Finding) → SearchedAs (idlePlan f n cs) a owners → SearchedAs (idlePlan f n ds) a owners
+    by : (a : SearchAnswer) → SearchedAs (idlePlan f n cs) a owners → SearchedAs (idlePlan f n ds) a owners
     by finding.Found x = (sym check ∙ x .0, finds true (x .0) (x .1))
     by finding.None x = (sym check ∙ x .0, finds false (x .0) (x .1))
     by (finding.Refused k) x = (rw check at (x .0), x .1)

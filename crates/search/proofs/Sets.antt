@@ -172,10 +172,10 @@ leaf-judged plan i g node u table verdict f> g= l leads made judged v long leads
     let same = own-leaf plan f> (i + 1) u v (long ∙ g=) (omega arith) (rw g= at (leads ∙ sym leads′)) in
     rw (place, made, same) at judged
 
-pub suits-by : (plan : Plan) (i : ℕ) (v : List ℕ) (verdict : Verdict) (number : ℕ)
+pub suits-by : (plan : Plan) (i : ℕ) (v : List ℕ) (verdict : Verdict) (need : ℕ)
     → IsVerdict (clientOf plan i) (ownIn (filled plan v) (plan .f) (i + 1)) (plan .f) verdict
-    → (number ≡ 0 → verdict ≡ Ok) → (verdict ≡ Ok → number ≡ 0) → Suits plan i v number
-suits-by plan i v verdict number judged there back =
+    → (need ≡ 0 → verdict ≡ Ok) → (verdict ≡ Ok → need ≡ 0) → Suits plan i v need
+suits-by plan i v verdict need judged there back =
     record {
       ok = λ z. ok-by verdict judged (there z);
       zero-if = λ ok. back (verdict-one _ _ _ verdict Ok judged ok);

@@ -6,7 +6,7 @@ use Prim.Native.Nat.{ℕ, _-_}
 use lib.Dec.{leb}
 use lib.ListN.{take, drop, replicate}
 use Rattle.records.specs.Refusal as refusal
-use Rattle.records.specs.First.{need, orElse, RefusedBy}
+use Rattle.records.specs.First.{unless, orElse, RefusedBy}
 use Rattle.records.specs.declared.Outcome.{Outcome}
 use Rattle.records.specs.declared.Outcome.the-variants.{Fine}
 use Rattle.plan.specs.declared.Client.{Client}
@@ -15,8 +15,8 @@ use Rattle.plan.specs.Plan.{withTable}
 use Rattle.plan.specs.Check.{requirementsCheck}
 use Rattle.judge.specs.Judge.{Accepted}
 use Rattle.explore.specs.Best.{IsBest, NoTable}
-use Rattle.search.specs.declared.Finding.{Finding}
-use Rattle.search.specs.declared.Finding.the-variants as finding
+use Rattle.search.specs.declared.SearchAnswer.{SearchAnswer}
+use Rattle.search.specs.declared.SearchAnswer.the-variants as finding
 use Rattle.search.specs.declared.Searched.{Searched}
 
 -- "The search takes f, n and the requirements": a plan that has them, all of its slots idle
@@ -34,7 +34,7 @@ mostClients = 4
 -- 16: f or n is more than that
 unfoldable pub sizeCheck : Plan → Outcome
 sizeCheck plan =
-    orElse (need (leb (plan .f) mostSlots) refusal.tooLarge 0) (need (leb (plan .n) mostClients) refusal.tooLarge 0)
+    orElse (unless (leb (plan .f) mostSlots) refusal.tooLarge 0) (unless (leb (plan .n) mostClients) refusal.tooLarge 0)
 
 -- "The search reads no owners: 5, 6, 8, 9, 16"
 unfoldable pub searchCheck : Plan → Outcome
@@ -50,7 +50,7 @@ Finds P f n true owners = IsBest P f n (take f owners) × (drop f owners ≡ rep
 Finds P f n false owners = NoTable P f n × (owners ≡ replicate 64 0)
 
 -- what the search answers
-abbrev pub SearchedAs : Plan → Finding → List ℕ → Type 0
+abbrev pub SearchedAs : Plan → SearchAnswer → List ℕ → Type 0
 SearchedAs plan finding.Found owners =
     (searchCheck plan ≡ Fine) × Finds (AcceptedIn plan) (plan .f) (plan .n) true owners
 SearchedAs plan finding.None owners =
@@ -62,7 +62,7 @@ abbrev pub IsSearched : Plan → Searched → Type 0
 IsSearched plan r = SearchedAs plan (r .answer) (r .owners)
 
 -- an answer's number: "A refusal .. returns its number"; ""None" is no refusal"
-abbrev pub searchedNumber : Finding → ℕ
+abbrev pub searchedNumber : SearchAnswer → ℕ
 searchedNumber finding.Found = 0
 searchedNumber finding.None = 0
 searchedNumber (finding.Refused number) = number

@@ -14,7 +14,7 @@ use Rattle.judge.specs.Judge.{ClientOk}
 use Rattle.explore.specs.Needs.{nodeOf, needAt}
 
 -- the owner of slot x of a frame of f slots that have these owners, when its idle slots are filled: an idle slot gets
--- the owner whose place is the number of idle slots before it
+-- the owner whose place is the count of idle slots before it
 unfoldable pub filledIn : List ℕ → ℕ → List ℕ → ℕ → ℕ
 filledIn owners f filling x =
     pick (eqb (getD owners x 0) 0) (getD filling (within (ownIn owners f 0) 0 x) 0) (getD owners x 0)
@@ -27,18 +27,18 @@ filledAt plan = filledIn (plan .owners) (plan .f)
 abbrev pub filled : Plan → List ℕ → List ℕ
 filled plan filling = firsts (filledAt plan filling) (plan .f)
 
--- the number is 0 exactly when client i + 1 is ok on the table that the filling makes
-pub record Suits (plan : Plan) (i : ℕ) (filling : List ℕ) (number : ℕ) : Type 0 where
-  pub ok : number ≡ 0 → ClientOk (withTable plan (filled plan filling)) i
-  pub zero-if : ClientOk (withTable plan (filled plan filling)) i → number ≡ 0
+-- the need is 0 exactly when client i + 1 is ok on the table that the filling makes
+pub record Suits (plan : Plan) (i : ℕ) (filling : List ℕ) (need : ℕ) : Type 0 where
+  pub ok : need ≡ 0 → ClientOk (withTable plan (filled plan filling)) i
+  pub zero-if : ClientOk (withTable plan (filled plan filling)) i → need ≡ 0
 
--- the number of node x in the tree of client i + 1: at a leaf, that of the fillings that lead to it; above, the least
+-- the need of node x in the tree of client i + 1: at a leaf, that of the fillings that lead to it; above, the least
 -- that the two nodes below allow
-pub record IsNumber (plan : Plan) (g : ℕ) (trees : List ℕ) (i x number : ℕ) : Type 0 where
-  pub above : 0 < x → x < 2 ^ g → number ≡ min (needAt trees i (2 * x)) (needAt trees i (2 * x + 1) + 1)
+pub record IsNeed (plan : Plan) (g : ℕ) (trees : List ℕ) (i x need : ℕ) : Type 0 where
+  pub above : 0 < x → x < 2 ^ g → need ≡ min (needAt trees i (2 * x)) (needAt trees i (2 * x + 1) + 1)
   pub leaf : 2 ^ g ≤ x → (filling : List ℕ) → length filling ≡ g → nodeOf (i + 1) filling ≡ x
-      → Suits plan i filling number
+      → Suits plan i filling need
 
 -- the trees of n clients
 pub record Planted (plan : Plan) (g n : ℕ) (trees : List ℕ) : Type 0 where
-  pub right : (i x : ℕ) → i < n → x < 512 → IsNumber plan g trees i x (needAt trees i x)
+  pub right : (i x : ℕ) → i < n → x < 512 → IsNeed plan g trees i x (needAt trees i x)

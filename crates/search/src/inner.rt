@@ -26,7 +26,7 @@ ghost use Rattle.judge.specs.declared.Verdict.the-variants.{Ok};
 ghost use Rattle.explore.specs.Needs.{childOf, nodeOf};
 ghost use Rattle.search.specs.Search.{searchCheck, Finds};
 ghost use Rattle.search.specs.Mend.{Mends, idleOf};
-ghost use Rattle.search.specs.Trees.{filledAt, Suits, IsNumber, Planted};
+ghost use Rattle.search.specs.Trees.{filledAt, Suits, IsNeed, Planted};
 
 // More places than there are: what a client needs where a set of idle slots will not do.
 const HOPELESS: u8 = 9;
@@ -129,10 +129,10 @@ fn least_need(other: u8, own: u8) -> u8
     if other <= own { other } else { own + 1 }
 }
 
-// The number of node x in the tree of client i + 1, all that stands after it being right.
-fn number_at(trees: &[u8; 4096], plan: Plan, g: usize, i: usize, x: usize) -> u8
+// The need at node x in the tree of client i + 1, all that stands after it being right.
+fn node_need(trees: &[u8; 4096], plan: Plan, g: usize, i: usize, x: usize) -> u8
     requires { ⌜ (1 ≤ plan .f) × (plan .f ≤ 64) × (g ≡ idleOf plan) × (g ≤ 8) × (i < 8) × (x < 512) ⌝ }
-    ensures { λ r. ⌜ IsNumber plan g (now (trees .entry)) i x r ⌝ }
+    ensures { λ r. ⌜ IsNeed plan g (now (trees .entry)) i x r ⌝ }
 {
     let leaves = 1usize << g;
     if x < leaves {
@@ -154,8 +154,8 @@ fn plant(plan: Plan, g: usize) -> [u8; 4096]
     let mut z = plan.n * 512;
     while 0 < z {
         z -= 1;
-        let number = number_at(&trees, plan, g, z / 512, z % 512);
-        trees[z] = number;
+        let need = node_need(&trees, plan, g, z / 512, z % 512);
+        trees[z] = need;
     }
     trees
 }

@@ -8,7 +8,7 @@ use records::Outcome;
 ghost use Rattle.search.specs.Search.{idlePlan, IsSearched};
 
 // A table was found, there is none, or the refusal's number.
-pub enum Finding {
+pub enum SearchAnswer {
     Found,
     None,
     Refused(u8),
@@ -16,7 +16,7 @@ pub enum Finding {
 
 // The answer, and the owners of the table found: 0 past f, and all 0 where none was.
 pub struct Searched {
-    pub answer: Finding,
+    pub answer: SearchAnswer,
     pub owners: [u8; 64],
 }
 
@@ -46,7 +46,7 @@ pub fn search(f: usize, n: usize, clients: [Client; 8]) -> Searched
     let checked = inner::check_search(plan);
     if let Outcome::Refused(number, offset) = checked {
         return Searched {
-            answer: Finding::Refused(number),
+            answer: SearchAnswer::Refused(number),
             owners: idle,
         };
     }
@@ -55,12 +55,12 @@ pub fn search(f: usize, n: usize, clients: [Client; 8]) -> Searched
     let found = mended.found;
     if found {
         return Searched {
-            answer: Finding::Found,
+            answer: SearchAnswer::Found,
             owners: owners,
         };
     }
     Searched {
-        answer: Finding::None,
+        answer: SearchAnswer::None,
         owners: idle,
     }
 }

@@ -1,7 +1,7 @@
 // Plans, records and answers between arrays and the library's values, and a run of inner steps.
-use arbiter::Answer;
+use arbiter::Served;
 use arbiter::Arbiter;
-use arbiter::Service;
+use arbiter::StepAnswer;
 use arbiter::Stepped;
 use arbiter::inner::serve_slot;
 use frame::inner::next;
@@ -113,9 +113,9 @@ pub fn arbiter_in(record: &[u8; 9]) -> Arbiter {
 pub fn tell_step(stepped: Stepped, record: &mut [u8; 9], answer: &mut [u8; 9]) -> usize {
     let next = stepped.next;
     let c = next.pending;
-    let said = stepped.answer;
+    let said = stepped.served;
     let t = said.turned;
-    let service = said.service;
+    let served = said.answer;
     *record = [
         (next.position % 256) as u8,
         c[0],
@@ -128,12 +128,12 @@ pub fn tell_step(stepped: Stepped, record: &mut [u8; 9], answer: &mut [u8; 9]) -
         c[7],
     ];
     *answer = [0, t[0], t[1], t[2], t[3], t[4], t[5], t[6], t[7]];
-    match service {
-        Service::Given(client) => {
+    match served {
+        StepAnswer::Given(client) => {
             answer[0] = (client % 256) as u8;
             0
         },
-        Service::Refused(number) => number as usize,
+        StepAnswer::Refused(number) => number as usize,
     }
 }
 
@@ -152,8 +152,8 @@ pub fn steps(plan: Plan, arbiter: Arbiter, arrivals: &[u8], times: usize) -> Ste
         served = serve_slot(plan, position, &mut pending, arrivals, &mut turned);
         i += 1;
     }
-    let answer = Answer {
-        service: Service::Given(served),
+    let last = Served {
+        answer: StepAnswer::Given(served),
         turned: turned,
     };
     let after = Arbiter {
@@ -161,7 +161,7 @@ pub fn steps(plan: Plan, arbiter: Arbiter, arrivals: &[u8], times: usize) -> Ste
         pending: pending,
     };
     Stepped {
-        answer: answer,
+        served: last,
         next: after,
     }
 }

@@ -3,7 +3,7 @@
 // these functions are safe and return is proved; what they call has its own contracts.
 pub mod inner; // inner.rt
 
-use figures::Figures;
+use figures::FigureAnswer;
 use inner::arbiter_in;
 use inner::clients_in;
 use inner::number_of;
@@ -11,11 +11,11 @@ use inner::plan_in;
 use inner::put_clients;
 use inner::tell_step;
 use inner::verdict_code;
-use judge::Judged;
+use judge::JudgeAnswer;
 use records::Outcome;
-use search::Finding;
+use search::SearchAnswer;
 use stream::LONGEST;
-use stream::Written;
+use stream::WriteAnswer;
 use text::PAGE;
 
 // Reads a stream: the plan's clients and owners, and f, n and the refusal's offset.
@@ -52,8 +52,8 @@ pub extern "C" fn speed_write(
     let plan = plan_in(f, n, words, owners);
     let written = stream::write(plan, out);
     match written {
-        Written::Bytes(size) => size,
-        Written::Refused(_) => 0,
+        WriteAnswer::Given(size) => size,
+        WriteAnswer::Refused(_) => 0,
     }
 }
 
@@ -76,11 +76,11 @@ pub extern "C" fn speed_figures(
     let plan = plan_in(f, n, words, owners);
     let figures = figures::figure_of(plan, client);
     match figures {
-        Figures::Given(given) => {
+        FigureAnswer::Given(given) => {
             *figure = [given.slots, given.scaled];
             0
         },
-        Figures::Refused(number) => {
+        FigureAnswer::Refused(number) => {
             *figure = [0, 0];
             number as usize
         },
@@ -99,7 +99,7 @@ pub extern "C" fn speed_judge(
     let plan = plan_in(f, n, words, owners);
     let judged = judge::judge(plan);
     match judged {
-        Judged::Given(given) => {
+        JudgeAnswer::Given(given) => {
             let verdict = given.verdict;
             *found = [
                 given.client,
@@ -109,7 +109,7 @@ pub extern "C" fn speed_judge(
             ];
             0
         },
-        Judged::Refused(number) => {
+        JudgeAnswer::Refused(number) => {
             *found = [0, 0, 0, 0];
             number as usize
         },
@@ -130,9 +130,9 @@ pub extern "C" fn speed_search(
     *owners = table;
     let answer = searched.answer;
     match answer {
-        Finding::Found => 0,
-        Finding::None => 1,
-        Finding::Refused(number) => number as usize,
+        SearchAnswer::Found => 0,
+        SearchAnswer::None => 1,
+        SearchAnswer::Refused(number) => number as usize,
     }
 }
 

@@ -18,7 +18,7 @@ use Rattle.stream.specs.Read.{readCheck, planOf, planIf, readOf}
 use Rattle.stream.specs.Trip.{Rewritten, Reread, Held}
 use Rattle.stream.specs.Write.{streamOf, writeCheck, writtenBy, writtenOf, bytesBy, bytesOf, Wrote}
 use Rattle.stream.specs.declared.Reading.{Reading}
-use Rattle.stream.specs.declared.Written.the-variants as written
+use Rattle.stream.specs.declared.WriteAnswer.the-variants as written
 use Rattle.stream.proofs.WrittenBack.{written-back, plan-right}
 use Rattle.stream.proofs.ReadBack.{read-back}
 
@@ -75,7 +75,7 @@ room-refused plan out e l =
     wrote-by plan out (outcome.Refused refusal.room 0) (simp (e, lt-leb (length (streamOf plan)) (length out) l))
 
 pub write-given : (plan : Plan) (out : List ℕ) → planCheck plan ≡ outcome.Fine → length (streamOf plan) ≤ length out
-    → Wrote plan out (written.Bytes (length (streamOf plan))) (streamOf plan ++ drop (length (streamOf plan)) out)
+    → Wrote plan out (written.Given (length (streamOf plan))) (streamOf plan ++ drop (length (streamOf plan)) out)
 unfolding writeCheck
 write-given plan out e l = wrote-by plan out outcome.Fine (simp (e, le-leb (length (streamOf plan)) (length out) l))
 
@@ -85,7 +85,7 @@ not-reread plan k now size h = let z : _≡_ {A = ℕ} 0 1 = cc in absurd (omega
 
 -- a plan that is written is read back
 pub write-reread : (plan : Plan) (rest : List ℕ) → Held plan → planCheck plan ≡ outcome.Fine
-    → Reread plan (written.Bytes (length (streamOf plan))) (streamOf plan ++ rest)
+    → Reread plan (written.Given (length (streamOf plan))) (streamOf plan ++ rest)
 write-reread plan rest held h size e =
     let n : size ≡ length (streamOf plan) = cc in
     ap (λ (k : ℕ). readOf (take k (streamOf plan ++ rest))) n

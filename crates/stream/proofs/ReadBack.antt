@@ -25,12 +25,13 @@ use Rattle.plan.specs.Plan.{noClient, clientOf, ownerOf, used}
 use Rattle.plan.specs.Check.{frameCheck, countCheck, clientCheck, planCheck}
 use Rattle.plan.proofs.Laws.{Checked, Required, client-pass, owner-pass, plan-fine}
 use Rattle.stream.specs.Kind.{headKind, clientKind, rowKind, endKind, wholeOf, classOf, rowsOf}
-use Rattle.stream.specs.Read.{after, place, dueCheck, headRead, clientAt, numberCheck, clientRead, clientDue}
-use Rattle.stream.specs.Read.{slotCheck, slotDue, rowRead, rowDue, endRead, toClients, toRows, toEnd, restRead}
-use Rattle.stream.specs.Read.{readCheck, clientIn, ownerIn, planOf, readOf}
+use Rattle.stream.specs.Read.{nextPlace, place, dueCheck, headRecordCheck, clientAt, numberCheck}
+use Rattle.stream.specs.Read.{clientRecordCheck, clientDueCheck, slotCheck, slotDueCheck, rowRecordCheck}
+use Rattle.stream.specs.Read.{rowDueCheck, endRecordCheck, toClients, toRows, toEnd, restCheck, readCheck}
+use Rattle.stream.specs.Read.{clientIn, ownerIn, planOf, readOf}
 use Rattle.stream.specs.Trip.{Words, Held}
 use Rattle.stream.specs.Write.{headRecord, clientBytes, clientRecord, slotByte, rowByte, rowRecord, streamOf}
-use Rattle.stream.proofs.Records.{Whole, due-pass, after-whole}
+use Rattle.stream.proofs.Records.{Whole, due-pass, next-whole}
 use Rattle.stream.proofs.Lengths.{length-client, length-row, length-parts}
 
 -- ---- a record that stands in a stream
@@ -67,8 +68,8 @@ place-many a r g n w (suc i) l =
     let s : List ℕ = a ++ (many g n ++ r) in
     let h = stands-many a r g n i (omega arith) in
     let found = whole s (length (a ++ many g i)) (getD (g i) 0 0) (g i) h refl (w i) .found in
-    ap (after s) (place-many a r g n w i (omega arith))
-    ∙ after-whole s (length (a ++ many g i)) (getD (g i) 0 0) found
+    ap (nextPlace s) (place-many a r g n w i (omega arith))
+    ∙ next-whole s (length (a ++ many g i)) (getD (g i) 0 0) found
     ∙ simp length-append (omega (arith, w i))
 
 -- ---- a client's record
@@ -86,8 +87,8 @@ client-same s at number c h w =
     rw (p, q, a, d)
 
 client-forth : (s : List ℕ) (at number : ℕ) (c : Client) → Stands s at (clientBytes number c) → Words c → Required c
-    → clientRead s at number ≡ Fine
-unfolding clientRead clientBytes classOf numberCheck
+    → clientRecordCheck s at number ≡ Fine
+unfolding clientRecordCheck clientBytes classOf numberCheck
 client-forth s at number c h w r =
     let due : dueCheck s at clientKind ≡ Fine =
     due-pass s at clientKind refl (whole s at clientKind (clientBytes number c) h refl (length-client number c)) in
@@ -108,8 +109,8 @@ slot-same plan s at j t h l =
     ∙ get-firsts (rowByte plan j) 0 [] 8 t l
 
 slot-forth : (plan : Plan) (s : List ℕ) (at j t : ℕ) → Checked plan → Stands s at (rowRecord plan j) → t < 8
-    → slotDue s (plan .f) (plan .n) at j t ≡ Fine
-unfolding slotDue slotCheck rowByte slotByte
+    → slotDueCheck s (plan .f) (plan .n) at j t ≡ Fine
+unfolding slotDueCheck slotCheck rowByte slotByte
 slot-forth plan s at j t ok h l =
     let x : ℕ = 8 * j + t in
     let e = slot-same plan s at j t h l in
@@ -121,13 +122,13 @@ slot-forth plan s at j t ok h l =
     (below-or-not x (plan .f))
 
 row-forth : (plan : Plan) (s : List ℕ) (at j : ℕ) → Checked plan → Stands s at (rowRecord plan j)
-    → rowRead s (plan .f) (plan .n) at j ≡ Fine
-unfolding rowRead rowRecord classOf
+    → rowRecordCheck s (plan .f) (plan .n) at j ≡ Fine
+unfolding rowRecordCheck rowRecord classOf
 row-forth plan s at j ok h =
     let due : dueCheck s at rowKind ≡ Fine =
     due-pass s at rowKind refl (whole s at rowKind (rowRecord plan j) h refl (length-row plan j)) in
-    let slots : firstOf (slotDue s (plan .f) (plan .n) at j) 8 ≡ Fine =
-    first-all (slotDue s (plan .f) (plan .n) at j) 8 (λ t l. slot-forth plan s at j t ok h l) in
+    let slots : firstOf (slotDueCheck s (plan .f) (plan .n) at j) 8 ≡ Fine =
+    first-all (slotDueCheck s (plan .f) (plan .n) at j) 8 (λ t l. slot-forth plan s at j t ok h l) in
     simp (due, slots)
 
 -- ---- the stream of a plan that passes
@@ -154,7 +155,7 @@ module _ (plan : Plan) (ok : Checked plan) (held : Held plan) where
       ap (λ (r : List ℕ). headRecord plan ++ r) (append-assoc (many (clientRecord plan) (plan .n)) rows (endKind ∷ []))
 
   clients-at : toClients (streamOf plan) ≡ length (headRecord plan)
-  unfolding streamOf after
+  unfolding streamOf nextPlace
   clients-at = refl
 
   client-place : (i : ℕ) → i ≤ plan .n
@@ -213,8 +214,8 @@ module _ (plan : Plan) (ok : Checked plan) (held : Held plan) where
       }
 
   -- every check passes
-  head-forth : headRead (streamOf plan) ≡ Fine
-  unfolding headRead streamOf classOf
+  head-forth : headRecordCheck (streamOf plan) ≡ Fine
+  unfolding headRecordCheck streamOf classOf
   head-forth =
       let n = length-parts plan in
       let due : dueCheck (streamOf plan) 0 headKind ≡ Fine =
@@ -224,34 +225,34 @@ module _ (plan : Plan) (ok : Checked plan) (held : Held plan) where
       let count : countCheck (plan .n) ≡ Fine = range-pass (plan .n) 8 refusal.count (b .n-low) (b .n-high) in
       simp (due, frame, count)
 
-  clients-forth : firstOf (clientDue (streamOf plan) (toClients (streamOf plan))) (plan .n) ≡ Fine
-  unfolding clientDue clientRecord
+  clients-forth : firstOf (clientDueCheck (streamOf plan) (toClients (streamOf plan))) (plan .n) ≡ Fine
+  unfolding clientDueCheck clientRecord
   clients-forth =
-      first-all (clientDue (streamOf plan) (toClients (streamOf plan))) (plan .n)
+      first-all (clientDueCheck (streamOf plan) (toClients (streamOf plan))) (plan .n)
       (λ (i : ℕ) (l : i < plan .n).
       client-forth (streamOf plan) (place (streamOf plan) (toClients (streamOf plan)) i) (i + 1) (clientOf plan i)
       (client-stands i l) (held i l) (ok .bounds .required i l))
 
-  rows-forth : firstOf (rowDue (streamOf plan) (plan .f) (plan .n) (toRows (streamOf plan) (plan .n)))
+  rows-forth : firstOf (rowDueCheck (streamOf plan) (plan .f) (plan .n) (toRows (streamOf plan) (plan .n)))
       (rowsOf (plan .f)) ≡ Fine
-  unfolding rowDue
+  unfolding rowDueCheck
   rows-forth =
-      first-all (rowDue (streamOf plan) (plan .f) (plan .n) (toRows (streamOf plan) (plan .n))) (rowsOf (plan .f))
+      first-all (rowDueCheck (streamOf plan) (plan .f) (plan .n) (toRows (streamOf plan) (plan .n))) (rowsOf (plan .f))
       (λ (j : ℕ) (l : j < rowsOf (plan .f)).
       row-forth plan (streamOf plan) (place (streamOf plan) (toRows (streamOf plan) (plan .n)) j) j ok (row-stands j l))
 
-  end-forth : endRead (streamOf plan) (toEnd (streamOf plan) (plan .f) (plan .n)) ≡ Fine
-  unfolding endRead classOf
+  end-forth : endRecordCheck (streamOf plan) (toEnd (streamOf plan) (plan .f) (plan .n)) ≡ Fine
+  unfolding endRecordCheck classOf
   end-forth =
       let s : List ℕ = streamOf plan in
       let at : ℕ = toEnd s (plan .f) (plan .n) in
       let due : dueCheck s at endKind ≡ Fine = due-pass s at endKind refl end-whole in
-      let next = after-whole s at endKind (end-whole .found) in
-      let over : overCheck s (after s at) ≡ Fine = over-pass s (after s at) (omega (arith, next, end-length)) in
+      let next = next-whole s at endKind (end-whole .found) in
+      let over : overCheck s (nextPlace s at) ≡ Fine = over-pass s (nextPlace s at) (omega (arith, next, end-length)) in
       simp (due, over)
 
   read-forth : readCheck (streamOf plan) ≡ Fine
-  unfolding readCheck restRead
+  unfolding readCheck restCheck
   read-forth = rw (head-forth, f-at, n-at, clients-forth, rows-forth, end-forth)
 
   -- every number is found

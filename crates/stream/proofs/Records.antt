@@ -16,15 +16,15 @@ use Rattle.records.specs.First.{pick, firstOf}
 use Rattle.records.specs.Record.{recordCheck}
 use Rattle.records.specs.declared.Outcome.{Outcome}
 use Rattle.records.specs.declared.Outcome.the-variants.{Fine}
-use Rattle.records.proofs.Checks.{both-fine, need-fine, range-fine, first-fine, first-same}
+use Rattle.records.proofs.Checks.{both-fine, unless-fine, range-fine, first-fine, first-same}
 use Rattle.records.proofs.Checks.{below-or-not, record-fine, record-pass, record-body, over-fine}
 use Rattle.plan.specs.Check.{ownerCheck}
 use Rattle.plan.proofs.Laws.{Required, client-fine, owner-higher}
 use Rattle.stream.specs.Kind.{headKind, clientKind, rowKind, endKind, bodyOf, wholeOf}
 use Rattle.stream.specs.Kind.{isReserved, classOf, rowsOf}
-use Rattle.stream.specs.Read.{fIn, nIn, after, place, dueCheck, headRead, clientAt, numberCheck, clientRead}
-use Rattle.stream.specs.Read.{clientDue, slotCheck, slotDue, rowRead, rowDue, endRead, toClients, toRows, toEnd}
-use Rattle.stream.specs.Read.{restRead, readCheck}
+use Rattle.stream.specs.Read.{fIn, nIn, nextPlace, place, dueCheck, headRecordCheck, clientAt, numberCheck}
+use Rattle.stream.specs.Read.{clientRecordCheck, clientDueCheck, slotCheck, slotDueCheck, rowRecordCheck}
+use Rattle.stream.specs.Read.{rowDueCheck, endRecordCheck, toClients, toRows, toEnd, restCheck, readCheck}
 
 -- ---- what a kind is
 
@@ -85,9 +85,9 @@ due-pass s at due e w = rw (w .found) (record-pass s at (classOf due due) (bodyO
 -- ---- places
 
 -- the record after one of this kind
-pub after-whole : (s : List ℕ) (at kind : ℕ) → getD s at 0 ≡ kind → after s at ≡ at + wholeOf kind
-unfolding after
-after-whole s at kind h = rw h
+pub next-whole : (s : List ℕ) (at kind : ℕ) → getD s at 0 ≡ kind → nextPlace s at ≡ at + wholeOf kind
+unfolding nextPlace
+next-whole s at kind h = rw h
 
 -- records of one kind are of one length
 place-whole : (s : List ℕ) (at kind k : ℕ) → ((i : ℕ) → i < k → getD s (place s at i) 0 ≡ kind)
@@ -95,7 +95,7 @@ place-whole : (s : List ℕ) (at kind k : ℕ) → ((i : ℕ) → i < k → getD
 unfolding place
 place-whole s at kind zero h = omega arith
 place-whole s at kind (suc k) h =
-    after-whole s (place s at k) kind (h k (omega arith))
+    next-whole s (place s at k) kind (h k (omega arith))
     ∙ omega (arith, place-whole s at kind k (λ i l. h i (omega arith)))
 
 -- ---- what each record says that passes
@@ -108,8 +108,8 @@ pub record HeadFine (s : List ℕ) : Type 0 where
   pub n-low : 1 ≤ nIn s
   pub n-high : nIn s ≤ 8
 
-pub head-fine : (s : List ℕ) → headRead s ≡ Fine → HeadFine s
-unfolding headRead
+pub head-fine : (s : List ℕ) → headRecordCheck s ≡ Fine → HeadFine s
+unfolding headRecordCheck
 head-fine s h =
     let a = both-fine _ _ h in
     let b = both-fine _ _ (a .1) in
@@ -118,12 +118,12 @@ head-fine s h =
     record { whole = due-fine s 0 headKind (a .0); f-low = f .0; f-high = f .1; n-low = n .0; n-high = n .1 }
 
 -- the same of what a check found, v
-pub head-found : (s : List ℕ) {v : Outcome} → v ≡ headRead s → v ≡ Fine → HeadFine s
+pub head-found : (s : List ℕ) {v : Outcome} → v ≡ headRecordCheck s → v ≡ Fine → HeadFine s
 head-found s e h = head-fine s (sym e ∙ h)
 
 -- where the clients begin
 pub to-clients : (s : List ℕ) → HeadFine s → toClients s ≡ wholeOf headKind
-to-clients s h = after-whole s 0 headKind (h .whole .found)
+to-clients s h = next-whole s 0 headKind (h .whole .found)
 
 -- a client's: its number is the next one, and its requirements pass
 pub record ClientFine (s : List ℕ) (at number : ℕ) : Type 0 where
@@ -133,10 +133,10 @@ pub record ClientFine (s : List ℕ) (at number : ℕ) : Type 0 where
 
 number-fine : (found number at : ℕ) → numberCheck found number at ≡ Fine → found ≡ number
 unfolding numberCheck
-number-fine found number at h = eqb-true found number (need-fine _ _ _ h)
+number-fine found number at h = eqb-true found number (unless-fine _ _ _ h)
 
-pub client-read-fine : (s : List ℕ) (at number : ℕ) → clientRead s at number ≡ Fine → ClientFine s at number
-unfolding clientRead
+pub client-read-fine : (s : List ℕ) (at number : ℕ) → clientRecordCheck s at number ≡ Fine → ClientFine s at number
+unfolding clientRecordCheck
 client-read-fine s at number h =
     let a = both-fine _ _ h in
     let b = both-fine _ _ (a .1) in
@@ -147,13 +147,13 @@ client-read-fine s at number h =
     }
 
 -- each of n clients' records, where all pass
-pub clients-fine : (s : List ℕ) (at n : ℕ) → firstOf (clientDue s at) n ≡ Fine → (i : ℕ) → i < n
+pub clients-fine : (s : List ℕ) (at n : ℕ) → firstOf (clientDueCheck s at) n ≡ Fine → (i : ℕ) → i < n
     → ClientFine s (place s at i) (i + 1)
-unfolding clientDue
-clients-fine s at n h i l = client-read-fine s (place s at i) (i + 1) (first-fine (clientDue s at) n h i l)
+unfolding clientDueCheck
+clients-fine s at n h i l = client-read-fine s (place s at i) (i + 1) (first-fine (clientDueCheck s at) n h i l)
 
 -- and where they stand
-pub place-clients : (s : List ℕ) (at n : ℕ) → firstOf (clientDue s at) n ≡ Fine → (i : ℕ) → i ≤ n
+pub place-clients : (s : List ℕ) (at n : ℕ) → firstOf (clientDueCheck s at) n ≡ Fine → (i : ℕ) → i ≤ n
     → place s at i ≡ at + wholeOf clientKind * i
 place-clients s at n h i l =
     place-whole s at clientKind i (λ j k. clients-fine s at n h j (omega arith) .whole .found)
@@ -161,7 +161,7 @@ place-clients s at n h i l =
 -- a row's: its eight slots pass
 pub record RowFine (s : List ℕ) (f n at j : ℕ) : Type 0 where
   pub whole : Whole s at rowKind
-  pub slots : firstOf (slotDue s f n at j) 8 ≡ Fine
+  pub slots : firstOf (slotDueCheck s f n at j) 8 ≡ Fine
 
 -- the owners of a row, checked one more: the highest so far decides
 pub owners-more : (g : ℕ → ℕ) (n at t highest : ℕ) {r : ℕ}
@@ -172,22 +172,22 @@ owners-more g n at t highest h e = rw (add-one, h, e) (owner-higher highest (g t
 
 -- a row with no place past f holds owners alone
 pub full-row : (s : List ℕ) (f n at j : ℕ) → 8 * j + 8 ≤ f
-    → firstOf (λ t. ownerCheck (getD s (at + (1 + t)) 0) n at) 8 ≡ firstOf (slotDue s f n at j) 8
-unfolding slotDue slotCheck
-full-row s f n at j h = first-same _ (slotDue s f n at j) 8 (λ t l. rw (lt-ltb (8 * j + t) f (omega arith)))
+    → firstOf (λ t. ownerCheck (getD s (at + (1 + t)) 0) n at) 8 ≡ firstOf (slotDueCheck s f n at j) 8
+unfolding slotDueCheck slotCheck
+full-row s f n at j h = first-same _ (slotDueCheck s f n at j) 8 (λ t l. rw (lt-ltb (8 * j + t) f (omega arith)))
 
-pub row-read-fine : (s : List ℕ) (f n at j : ℕ) → rowRead s f n at j ≡ Fine → RowFine s f n at j
-unfolding rowRead
+pub row-read-fine : (s : List ℕ) (f n at j : ℕ) → rowRecordCheck s f n at j ≡ Fine → RowFine s f n at j
+unfolding rowRecordCheck
 row-read-fine s f n at j h = let a = both-fine _ _ h in record { whole = due-fine s at rowKind (a .0); slots = a .1 }
 
 -- each of m rows, where all pass
-pub rows-fine : (s : List ℕ) (f n at m : ℕ) → firstOf (rowDue s f n at) m ≡ Fine → (j : ℕ) → j < m
+pub rows-fine : (s : List ℕ) (f n at m : ℕ) → firstOf (rowDueCheck s f n at) m ≡ Fine → (j : ℕ) → j < m
     → RowFine s f n (place s at j) j
-unfolding rowDue
-rows-fine s f n at m h j l = row-read-fine s f n (place s at j) j (first-fine (rowDue s f n at) m h j l)
+unfolding rowDueCheck
+rows-fine s f n at m h j l = row-read-fine s f n (place s at j) j (first-fine (rowDueCheck s f n at) m h j l)
 
 -- and where they stand
-pub place-rows : (s : List ℕ) (f n at m : ℕ) → firstOf (rowDue s f n at) m ≡ Fine → (j : ℕ) → j ≤ m
+pub place-rows : (s : List ℕ) (f n at m : ℕ) → firstOf (rowDueCheck s f n at) m ≡ Fine → (j : ℕ) → j ≤ m
     → place s at j ≡ at + wholeOf rowKind * j
 place-rows s f n at m h j l =
     place-whole s at rowKind j (λ i k. rows-fine s f n at m h i (omega arith) .whole .found)
@@ -196,13 +196,13 @@ place-rows s f n at m h j l =
 
 -- what follows the head: the clients, the rows, and an end record that is the last
 pub record RestFine (s : List ℕ) (f n : ℕ) : Type 0 where
-  pub clients : firstOf (clientDue s (toClients s)) n ≡ Fine
-  pub rows : firstOf (rowDue s f n (toRows s n)) (rowsOf f) ≡ Fine
+  pub clients : firstOf (clientDueCheck s (toClients s)) n ≡ Fine
+  pub rows : firstOf (rowDueCheck s f n (toRows s n)) (rowsOf f) ≡ Fine
   pub end : Whole s (toEnd s f n) endKind
   pub last : length s ≤ toEnd s f n + wholeOf endKind
 
-pub rest-fine : (s : List ℕ) (f n : ℕ) → restRead s f n ≡ Fine → RestFine s f n
-unfolding restRead endRead
+pub rest-fine : (s : List ℕ) (f n : ℕ) → restCheck s f n ≡ Fine → RestFine s f n
+unfolding restCheck endRecordCheck
 rest-fine s f n h =
     let a = both-fine _ _ h in
     let b = both-fine _ _ (a .1) in
@@ -212,7 +212,7 @@ rest-fine s f n h =
       clients = a .0;
       rows = b .0;
       end = w;
-      last = rw (after-whole s (toEnd s f n) endKind (w .found)) at (over-fine s (after s (toEnd s f n)) (d .1));
+      last = rw (next-whole s (toEnd s f n) endKind (w .found)) at (over-fine s (nextPlace s (toEnd s f n)) (d .1));
     }
 
 -- all of it

@@ -10,10 +10,10 @@ use lib.Dec.{leb}
 use lib.ListN.{length, take, length-append, length-drop}
 use borrow.Author.Tests.{le-leb, leb-true}
 use Rattle.records.specs.Refusal as refusal
-use Rattle.records.specs.First.{need, orElse}
+use Rattle.records.specs.First.{unless, orElse}
 use Rattle.records.specs.declared.Outcome.{Outcome}
 use Rattle.records.specs.declared.Outcome.the-variants as outcome
-use Rattle.records.proofs.Checks.{both-fine, need-fine}
+use Rattle.records.proofs.Checks.{both-fine, unless-fine}
 use Rattle.plan.specs.declared.Plan.{Plan}
 use Rattle.plan.specs.Plan.{noPlan}
 use Rattle.plan.specs.Check.{planCheck}
@@ -22,8 +22,8 @@ use Rattle.stream.specs.Read.{readOf}
 use Rattle.stream.specs.Trip.{Rewritten, Reread, copyCheck, Copied, rereadOf}
 use Rattle.stream.specs.Write.{streamOf, longest, writeCheck, writtenBy, writtenOf, bytesBy, bytesOf, Wrote}
 use Rattle.stream.specs.declared.Reading.{Reading}
-use Rattle.stream.specs.declared.Written.{Written}
-use Rattle.stream.specs.declared.Written.the-variants as written
+use Rattle.stream.specs.declared.WriteAnswer.{WriteAnswer}
+use Rattle.stream.specs.declared.WriteAnswer.the-variants as written
 use Rattle.stream.proofs.Lengths.{stream-sizes}
 use Rattle.stream.proofs.Answers.{reading-found, reading-checked}
 
@@ -36,7 +36,7 @@ copy-refused s out a k offset e h =
     let q = reading-found s a (outcome.Refused k offset) e h in
     record { answer = rw q; bytes = rw q }
 
-pub copied : (s out : List ℕ) (a : Reading) (r : Written) (now : List ℕ) → a ≡ readOf s → Rewritten s a
+pub copied : (s out : List ℕ) (a : Reading) (r : WriteAnswer) (now : List ℕ) → a ≡ readOf s → Rewritten s a
     → a .outcome ≡ outcome.Fine → Wrote (a .plan) out r now → Copied s out r now
 unfolding copyCheck writeCheck writtenOf bytesOf
 copied s out a r now e back h w =
@@ -46,13 +46,13 @@ copied s out a r now e back h w =
     record { answer = w .answer ∙ rw (ok, t, q); bytes = w .bytes ∙ rw (ok, t, q) }
 
 -- there is one such answer, and one such output after
-pub copied-once : (s out : List ℕ) (r r′ : Written) (now now′ : List ℕ) → Copied s out r now → Copied s out r′ now′
+pub copied-once : (s out : List ℕ) (r r′ : WriteAnswer) (now now′ : List ℕ) → Copied s out r now → Copied s out r′ now′
     → (r ≡ r′) × (now ≡ now′)
 copied-once s out r r′ now now′ h h′ = (h .answer ∙ sym (h′ .answer), h .bytes ∙ sym (h′ .bytes))
 
 -- ---- written, then read: r is what the write gave, now the bytes after
 
-written-fine : (o : Outcome) (n size : ℕ) → writtenBy o n ≡ written.Bytes size → (o ≡ outcome.Fine) × (size ≡ n)
+written-fine : (o : Outcome) (n size : ℕ) → writtenBy o n ≡ written.Given size → (o ≡ outcome.Fine) × (size ≡ n)
 written-fine outcome.Fine n size h = (refl, cc)
 written-fine (outcome.Refused k offset) n size h = let z : _≡_ {A = ℕ} 0 1 = cc in absurd (omega arith)
 
@@ -71,11 +71,11 @@ write-fine : (plan : Plan) (n : ℕ) → writeCheck plan n ≡ outcome.Fine
 unfolding writeCheck
 write-fine plan n h =
     let test : Bool = leb (length (streamOf plan)) n in
-    let b = both-fine (planCheck plan) (need test refusal.room 0) h in
-    (b .0, leb-true (length (streamOf plan)) n (need-fine test refusal.room 0 (b .1)))
+    let b = both-fine (planCheck plan) (unless test refusal.room 0) h in
+    (b .0, leb-true (length (streamOf plan)) n (unless-fine test refusal.room 0 (b .1)))
 
-pub fitted : (plan : Plan) (out : List ℕ) (r : Written) (now : List ℕ) (size : ℕ) → Wrote plan out r now
-    → r ≡ written.Bytes size → Fitted plan size now
+pub fitted : (plan : Plan) (out : List ℕ) (r : WriteAnswer) (now : List ℕ) (size : ℕ) → Wrote plan out r now
+    → r ≡ written.Given size → Fitted plan size now
 unfolding writtenOf bytesOf
 fitted plan out r now size w e =
     let o : Outcome = writeCheck plan (length out) in
@@ -85,19 +85,19 @@ fitted plan out r now size w e =
     record { passed = l .0; fits = omega (arith, g .1, l .1) }
 
 -- and is the plan's own reading
-pub reread-given : (plan : Plan) (r : Written) (now : List ℕ) (size : ℕ) (a : Reading) → planCheck plan ≡ outcome.Fine
-    → Reread plan r now → r ≡ written.Bytes size → a ≡ readOf (take size now) → a ≡ rereadOf plan
+pub reread-given : (plan : Plan) (r : WriteAnswer) (now : List ℕ) (size : ℕ) (a : Reading)
+    → planCheck plan ≡ outcome.Fine → Reread plan r now → r ≡ written.Given size → a ≡ readOf (take size now) → a ≡ rereadOf plan
 unfolding rereadOf
 reread-given plan r now size a ok back e h = h ∙ back size e ∙ rw ok
 
 -- a write into as many bytes as the longest stream has is refused for the plan's own fault, which has no offset
 refused-by : (plan : Plan) (k : ℕ) (o : Outcome) → planCheck plan ≡ o
-    → writtenBy (orElse o (need (leb (length (streamOf plan)) longest) refusal.room 0)) (length (streamOf plan))
+    → writtenBy (orElse o (unless (leb (length (streamOf plan)) longest) refusal.room 0)) (length (streamOf plan))
     ≡ written.Refused k → record { outcome = outcome.Refused k 0; plan = noPlan } ≡ rereadOf plan
 unfolding rereadOf
 refused-by plan k outcome.Fine h e =
     let fits = le-leb (length (streamOf plan)) longest (stream-sizes plan h .1) in
-    let g : written.Bytes (length (streamOf plan)) ≡ written.Refused k = rw fits at e in
+    let g : written.Given (length (streamOf plan)) ≡ written.Refused k = rw fits at e in
     let z : _≡_ {A = ℕ} 0 1 = cc in
     absurd (omega arith)
 refused-by plan k (outcome.Refused j offset) h e =
@@ -105,7 +105,7 @@ refused-by plan k (outcome.Refused j offset) h e =
     let unread : offset ≡ 0 = rw h at (plan-unread plan) in
     rw (h, number, unread)
 
-pub reread-refused : (plan : Plan) (out : List ℕ) (r : Written) (now : List ℕ) (k : ℕ) → length out ≡ longest
+pub reread-refused : (plan : Plan) (out : List ℕ) (r : WriteAnswer) (now : List ℕ) (k : ℕ) → length out ≡ longest
     → Wrote plan out r now → r ≡ written.Refused k
     → record { outcome = outcome.Refused k 0; plan = noPlan } ≡ rereadOf plan
 unfolding writtenOf writeCheck

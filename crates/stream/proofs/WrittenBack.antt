@@ -11,10 +11,10 @@ use lib.Dec.{ltb, eqb}
 use lib.ListN.{drop, getD, drop-of-length-le}
 use borrow.Author.Tests.{lt-ltb, le-ltb, eqb-true}
 use Rattle.records.specs.Refusal as refusal
-use Rattle.records.specs.First.{pick, need}
+use Rattle.records.specs.First.{pick, unless}
 use Rattle.records.specs.Pieces.{many, firsts, part}
 use Rattle.records.specs.declared.Outcome.the-variants.{Fine}
-use Rattle.records.proofs.Checks.{below-or-not, need-fine, first-fine}
+use Rattle.records.proofs.Checks.{below-or-not, unless-fine, first-fine}
 use Rattle.records.proofs.Lists.{firsts-same, get-padded}
 use Rattle.records.proofs.Parts.{part-run, part-rest, many-part}
 use Rattle.records.proofs.Words.{Bytes, word-high, word-low}
@@ -22,10 +22,10 @@ use Rattle.plan.specs.Plan.{noClient, clientOf, ownerOf}
 use Rattle.plan.specs.Check.{planCheck}
 use Rattle.plan.proofs.Laws.{Checked, owner-fine, plan-pass}
 use Rattle.stream.specs.Kind.{headKind, clientKind, rowKind, endKind, wholeOf, rowsOf}
-use Rattle.stream.specs.Read.{fIn, nIn, place, clientAt, slotCheck, slotDue, toClients, toRows, toEnd, readCheck}
-use Rattle.stream.specs.Read.{clientIn, ownerIn, planOf}
+use Rattle.stream.specs.Read.{fIn, nIn, place, clientAt, slotCheck, slotDueCheck, toClients, toRows, toEnd}
+use Rattle.stream.specs.Read.{readCheck, clientIn, ownerIn, planOf}
 use Rattle.stream.specs.Write.{headRecord, clientBytes, clientRecord, slotByte, rowByte, rowRecord, streamOf}
-use Rattle.stream.proofs.Records.{ClientFine, RowFine, ReadFine, after-whole, clients-fine, rows-fine, read-fine}
+use Rattle.stream.proofs.Records.{ClientFine, RowFine, ReadFine, next-whole, clients-fine, rows-fine, read-fine}
 use Rattle.stream.proofs.Lengths.{length-client, length-row}
 
 -- ---- one record
@@ -47,8 +47,8 @@ slot-back f n x byte at h =
     ⊎-elim
     (λ (l : x < f). simp (lt-ltb x f l))
     (λ (l : f ≤ x).
-    let past : need (eqb byte 255) refusal.pastFrame at ≡ Fine = rw (le-ltb x f l) at h in
-    simp (le-ltb x f l) (sym (eqb-true byte 255 (need-fine _ _ _ past))))
+    let past : unless (eqb byte 255) refusal.pastFrame at ≡ Fine = rw (le-ltb x f l) at h in
+    simp (le-ltb x f l) (sym (eqb-true byte 255 (unless-fine _ _ _ past))))
     (below-or-not x f)
 
 -- ---- a stream that passes
@@ -77,20 +77,20 @@ module _ (s : List ℕ) (z : ReadFine s) where
       let same : clientBytes (i + 1) (clientAt s at) ≡ clientBytes (i + 1) (clientOf (planOf s) i) =
       ap (clientBytes (i + 1)) (sym (client-in i l)) in
       let w = length-client (i + 1) (clientOf (planOf s) i) in (
-        after-whole s at clientKind (c .whole .found) ∙ ap (λ (k : ℕ). at + k) (sym w),
+        next-whole s at clientKind (c .whole .found) ∙ ap (λ (k : ℕ). at + k) (sym w),
         ap (part s at) w ∙ client-back s at (i + 1) b c ∙ same,
       ))
 
   slots-back : (j t : ℕ) → j < rowsOf (fIn s) → t < 8
       → rowByte (planOf s) j t ≡ getD s (place s (toRows s (nIn s)) j + (1 + t)) 0
-  unfolding rowByte slotByte slotDue planOf
+  unfolding rowByte slotByte slotDueCheck planOf
   slots-back j t l m =
       let f = fIn s in
       let n = nIn s in
       let at : ℕ = place s (toRows s n) j in
       let x : ℕ = 8 * j + t in
       let byte : ℕ = getD s (at + (1 + t)) 0 in
-      let c = slot-back f n x byte at (first-fine (slotDue s f n at j) 8 (row j l .slots) t m) in
+      let c = slot-back f n x byte at (first-fine (slotDueCheck s f n at j) 8 (row j l .slots) t m) in
       ⊎-elim
       (λ (y : x < f).
       let d : x / 8 ≡ j = omega arith in
@@ -120,7 +120,7 @@ module _ (s : List ℕ) (z : ReadFine s) where
       (λ (j : ℕ) (l : j < rowsOf (fIn s)).
       let at : ℕ = place s (toRows s (nIn s)) j in
       let w = length-row (planOf s) j in (
-        after-whole s at rowKind (row j l .whole .found) ∙ ap (λ (k : ℕ). at + k) (sym w),
+        next-whole s at rowKind (row j l .whole .found) ∙ ap (λ (k : ℕ). at + k) (sym w),
         ap (part s at) w ∙ row-back j l,
       ))
 
@@ -143,7 +143,7 @@ module _ (s : List ℕ) (z : ReadFine s) where
       let w = z .head .whole in
       let three : part s 0 (wholeOf headKind) ≡ headKind ∷ fIn s ∷ nIn s ∷ [] =
       part-run s 0 (wholeOf headKind) (w .room) ∙ ap (λ (k : ℕ). k ∷ fIn s ∷ nIn s ∷ []) (w .found) in
-      ap (λ (k : ℕ). headRecord (planOf s) ++ drop k s) (after-whole s 0 headKind (w .found))
+      ap (λ (k : ℕ). headRecord (planOf s) ++ drop k s) (next-whole s 0 headKind (w .found))
       ∙ ap (λ (r : List ℕ). r ++ drop (wholeOf headKind) s) (sym three)
       ∙ part-rest s 0 (wholeOf headKind)
 
@@ -163,7 +163,7 @@ module _ (s : List ℕ) (z : ReadFine s) where
       ∙ head-back
 
   checked : Checked (planOf s)
-  unfolding planOf slotDue slotCheck
+  unfolding planOf slotDueCheck slotCheck
   checked =
       let f = fIn s in
       let n = nIn s in
@@ -183,7 +183,7 @@ module _ (s : List ℕ) (z : ReadFine s) where
             let at : ℕ = place s (toRows s n) (x / 8) in
             let e : 8 * (x / 8) + x % 8 ≡ x = omega arith in
             let slots = row (x / 8) (omega arith) .slots in
-            let slot = first-fine (slotDue s f n at (x / 8)) 8 slots (x % 8) (omega arith) in
+            let slot = first-fine (slotDueCheck s f n at (x / 8)) 8 slots (x % 8) (omega arith) in
             rw (owner-in x l) (owner-fine (getD s (at + (1 + x % 8)) 0) n at (rw (e, lt-ltb x f l) at slot));
       }
 

@@ -4,7 +4,7 @@ use Prim.Native.Nat.{ℕ, zero, suc, _+_, _*_, _/_, _%_}
 use lib.Dec.{ltb, eqb}
 use lib.ListN.{getD}
 use Rattle.records.specs.Refusal as refusal
-use Rattle.records.specs.First.{pick, need, orElse, firstOf}
+use Rattle.records.specs.First.{pick, unless, orElse, firstOf}
 use Rattle.records.specs.Pieces.{padded}
 use Rattle.records.specs.Record.{word, recordCheck, overCheck}
 use Rattle.records.specs.declared.Outcome.{Outcome}
@@ -19,13 +19,13 @@ use Rattle.stream.specs.declared.Reading.{Reading}
 -- ---- places: records follow one another, each as long as its kind says
 
 -- the place after the record at a place
-unfoldable pub after : List ℕ → ℕ → ℕ
-after s at = at + wholeOf (getD s at 0)
+unfoldable pub nextPlace : List ℕ → ℕ → ℕ
+nextPlace s at = at + wholeOf (getD s at 0)
 
 -- the place after k records
 unfoldable pub place : List ℕ → ℕ → ℕ → ℕ
 place s at zero = at
-place s at (suc k) = after s (place s at k)
+place s at (suc k) = nextPlace s (place s at k)
 
 -- ---- checks: "1 (no kind byte), 2, 3, 1 (body short), then fields left to right"
 
@@ -42,8 +42,8 @@ abbrev pub nIn : List ℕ → ℕ
 nIn s = getD s 2 0
 
 -- the head's record: "fields left to right", 5 and 6
-unfoldable pub headRead : List ℕ → Outcome
-headRead s = orElse (dueCheck s 0 headKind) (orElse (frameCheck (fIn s)) (countCheck (nIn s)))
+unfoldable pub headRecordCheck : List ℕ → Outcome
+headRecordCheck s = orElse (dueCheck s 0 headKind) (orElse (frameCheck (fIn s)) (countCheck (nIn s)))
 
 -- a client's record: the requirements in it
 unfoldable pub clientAt : List ℕ → ℕ → Client
@@ -51,41 +51,41 @@ clientAt s at = record { p = word s (at + 2); q = word s (at + 4); a = word s (a
 
 -- 7: its number is not the next one
 unfoldable pub numberCheck : ℕ → ℕ → ℕ → Outcome
-numberCheck found number at = need (eqb found number) refusal.notNext at
+numberCheck found number at = unless (eqb found number) refusal.notNext at
 
 -- "for a client 7, 8, 9"
-unfoldable pub clientRead : List ℕ → ℕ → ℕ → Outcome
-clientRead s at number =
+unfoldable pub clientRecordCheck : List ℕ → ℕ → ℕ → Outcome
+clientRecordCheck s at number =
     orElse (dueCheck s at clientKind)
     (orElse (numberCheck (getD s (at + 1) 0) number at) (clientCheck (clientAt s at) at))
 
 -- client i + 1, where the clients' records begin at a place
-unfoldable pub clientDue : List ℕ → ℕ → ℕ → Outcome
-clientDue s at i = clientRead s (place s at i) (i + 1)
+unfoldable pub clientDueCheck : List ℕ → ℕ → ℕ → Outcome
+clientDueCheck s at i = clientRecordCheck s (place s at i) (i + 1)
 
 -- the byte of slot x: its owner, 10; past f 255, 11
 unfoldable pub slotCheck : ℕ → ℕ → ℕ → ℕ → ℕ → Outcome
-slotCheck f n x byte at = pick (ltb x f) (ownerCheck byte n at) (need (eqb byte 255) refusal.pastFrame at)
+slotCheck f n x byte at = pick (ltb x f) (ownerCheck byte n at) (unless (eqb byte 255) refusal.pastFrame at)
 
 -- slot t of row j, whose record is at a place
-unfoldable pub slotDue : List ℕ → ℕ → ℕ → ℕ → ℕ → ℕ → Outcome
-slotDue s f n at j t = slotCheck f n (8 * j + t) (getD s (at + (1 + t)) 0) at
+unfoldable pub slotDueCheck : List ℕ → ℕ → ℕ → ℕ → ℕ → ℕ → Outcome
+slotDueCheck s f n at j t = slotCheck f n (8 * j + t) (getD s (at + (1 + t)) 0) at
 
 -- a row's record: its eight slots left to right
-unfoldable pub rowRead : List ℕ → ℕ → ℕ → ℕ → ℕ → Outcome
-rowRead s f n at j = orElse (dueCheck s at rowKind) (firstOf (slotDue s f n at j) 8)
+unfoldable pub rowRecordCheck : List ℕ → ℕ → ℕ → ℕ → ℕ → Outcome
+rowRecordCheck s f n at j = orElse (dueCheck s at rowKind) (firstOf (slotDueCheck s f n at j) 8)
 
 -- row j, where the rows begin at a place
-unfoldable pub rowDue : List ℕ → ℕ → ℕ → ℕ → ℕ → Outcome
-rowDue s f n at j = rowRead s f n (place s at j) j
+unfoldable pub rowDueCheck : List ℕ → ℕ → ℕ → ℕ → ℕ → Outcome
+rowDueCheck s f n at j = rowRecordCheck s f n (place s at j) j
 
 -- the end record; "Number 4 is looked for last"
-unfoldable pub endRead : List ℕ → ℕ → Outcome
-endRead s at = orElse (dueCheck s at endKind) (overCheck s (after s at))
+unfoldable pub endRecordCheck : List ℕ → ℕ → Outcome
+endRecordCheck s at = orElse (dueCheck s at endKind) (overCheck s (nextPlace s at))
 
 -- where the clients' records begin: after the head
 abbrev pub toClients : List ℕ → ℕ
-toClients s = after s 0
+toClients s = nextPlace s 0
 
 -- where the rows begin: after n clients
 abbrev pub toRows : List ℕ → ℕ → ℕ
@@ -96,14 +96,14 @@ abbrev pub toEnd : List ℕ → ℕ → ℕ → ℕ
 toEnd s f n = place s (toRows s n) (rowsOf f)
 
 -- what follows the head: "then clients 1 to n, then as many kind 3 as f needs, then kind 9"
-unfoldable pub restRead : List ℕ → ℕ → ℕ → Outcome
-restRead s f n =
-    orElse (firstOf (clientDue s (toClients s)) n)
-    (orElse (firstOf (rowDue s f n (toRows s n)) (rowsOf f)) (endRead s (toEnd s f n)))
+unfoldable pub restCheck : List ℕ → ℕ → ℕ → Outcome
+restCheck s f n =
+    orElse (firstOf (clientDueCheck s (toClients s)) n)
+    (orElse (firstOf (rowDueCheck s f n (toRows s n)) (rowsOf f)) (endRecordCheck s (toEnd s f n)))
 
 -- the whole stream: "Reading goes record by record"
 unfoldable pub readCheck : List ℕ → Outcome
-readCheck s = orElse (headRead s) (restRead s (fIn s) (nIn s))
+readCheck s = orElse (headRecordCheck s) (restCheck s (fIn s) (nIn s))
 
 -- ---- the plan that a stream holds, 0 past f and past n
 

@@ -5,7 +5,7 @@ use Prim.Native.Nat.{ℕ, _<_}
 use lib.Dec.{leb}
 use lib.ListN.{length, take}
 use Rattle.records.specs.Refusal as refusal
-use Rattle.records.specs.First.{need, orElse}
+use Rattle.records.specs.First.{unless, orElse}
 use Rattle.records.specs.declared.Outcome.{Outcome}
 use Rattle.records.specs.declared.Outcome.the-variants as outcome
 use Rattle.plan.specs.declared.Client.{Client}
@@ -15,17 +15,17 @@ use Rattle.plan.specs.Check.{planCheck}
 use Rattle.stream.specs.Read.{readCheck, planIf, readOf}
 use Rattle.stream.specs.Write.{streamOf, writtenBy, bytesBy}
 use Rattle.stream.specs.declared.Reading.{Reading}
-use Rattle.stream.specs.declared.Written.{Written}
-use Rattle.stream.specs.declared.Written.the-variants as written
+use Rattle.stream.specs.declared.WriteAnswer.{WriteAnswer}
+use Rattle.stream.specs.declared.WriteAnswer.the-variants as written
 
 -- a stream s that is read: the stream of its plan is s
 abbrev pub Rewritten : List ℕ → Reading → Type 0
 Rewritten s r = r .outcome ≡ outcome.Fine → streamOf (r .plan) ≡ s
 
 -- a plan that is written: the bytes written are read as that plan, 0 past f and past n
-abbrev pub Reread : Plan → Written → List ℕ → Type 0
+abbrev pub Reread : Plan → WriteAnswer → List ℕ → Type 0
 Reread plan r out =
-    (size : ℕ) → r ≡ written.Bytes size → readOf (take size out) ≡ record { outcome = outcome.Fine; plan = used plan }
+    (size : ℕ) → r ≡ written.Given size → readOf (take size out) ≡ record { outcome = outcome.Fine; plan = used plan }
 
 -- what the type of a client's four numbers says
 pub record Words (c : Client) : Type 0 where
@@ -42,10 +42,10 @@ Held plan = (i : ℕ) → i < plan .n → Words (clientOf plan i)
 
 -- a stream s read and its plan written into room bytes: reading's refusals, then 12 where s itself does not fit
 unfoldable pub copyCheck : List ℕ → ℕ → Outcome
-copyCheck s room = orElse (readCheck s) (need (leb (length s) room) refusal.room 0)
+copyCheck s room = orElse (readCheck s) (unless (leb (length s) room) refusal.room 0)
 
 -- the answer, r, and the lent output after, now: s itself, and past it what stood there before
-pub record Copied (s out : List ℕ) (r : Written) (now : List ℕ) : Type 0 where
+pub record Copied (s out : List ℕ) (r : WriteAnswer) (now : List ℕ) : Type 0 where
   pub answer : r ≡ writtenBy (copyCheck s (length out)) (length s)
   pub bytes : now ≡ bytesBy (copyCheck s (length out)) s out
 

@@ -5,7 +5,7 @@ use Prim.Native.Nat.{ℕ, _+_, _*_}
 use lib.Dec.{ltb, leb}
 use lib.ListN.{length, drop}
 use Rattle.records.specs.Refusal as refusal
-use Rattle.records.specs.First.{pick, need, orElse}
+use Rattle.records.specs.First.{pick, unless, orElse}
 use Rattle.records.specs.Pieces.{many, firsts}
 use Rattle.records.specs.Record.{be}
 use Rattle.records.specs.declared.Outcome.{Outcome}
@@ -15,8 +15,8 @@ use Rattle.plan.specs.declared.Plan.{Plan}
 use Rattle.plan.specs.Plan.{clientOf, ownerOf}
 use Rattle.plan.specs.Check.{planCheck}
 use Rattle.stream.specs.Kind.{headKind, clientKind, rowKind, endKind, rowsOf}
-use Rattle.stream.specs.declared.Written.{Written}
-use Rattle.stream.specs.declared.Written.the-variants as written
+use Rattle.stream.specs.declared.WriteAnswer.{WriteAnswer}
+use Rattle.stream.specs.declared.WriteAnswer.the-variants as written
 
 -- ---- the stream
 
@@ -57,15 +57,15 @@ longest = 156
 
 -- "All else that takes a plan checks it first .. Then: writing 12"
 unfoldable pub writeCheck : Plan → ℕ → Outcome
-writeCheck plan room = orElse (planCheck plan) (need (leb (length (streamOf plan)) room) refusal.room 0)
+writeCheck plan room = orElse (planCheck plan) (unless (leb (length (streamOf plan)) room) refusal.room 0)
 
 -- an outcome as an answer: the stream's length, or the refusal's number
-abbrev pub writtenBy : Outcome → ℕ → Written
-writtenBy outcome.Fine size = written.Bytes size
+abbrev pub writtenBy : Outcome → ℕ → WriteAnswer
+writtenBy outcome.Fine size = written.Given size
 writtenBy (outcome.Refused k offset) size = written.Refused k
 
 -- the answer of a write
-unfoldable pub writtenOf : Plan → ℕ → Written
+unfoldable pub writtenOf : Plan → ℕ → WriteAnswer
 writtenOf plan room = writtenBy (writeCheck plan room) (length (streamOf plan))
 
 -- "A write that succeeds touches only the stream's length of bytes"; a refusal "leaves a lent output untouched"
@@ -78,16 +78,16 @@ unfoldable pub bytesOf : Plan → List ℕ → List ℕ
 bytesOf plan out = bytesBy (writeCheck plan (length out)) (streamOf plan) out
 
 -- what a write into out gives, r, and leaves there, now
-pub record Wrote (plan : Plan) (out : List ℕ) (r : Written) (now : List ℕ) : Type 0 where
+pub record Wrote (plan : Plan) (out : List ℕ) (r : WriteAnswer) (now : List ℕ) : Type 0 where
   pub answer : r ≡ writtenOf plan (length out)
   pub bytes : now ≡ bytesOf plan out
 
 -- the document's number of an answer, 0 where nothing is refused
-abbrev pub writtenNumber : Written → ℕ
-writtenNumber (written.Bytes size) = 0
+abbrev pub writtenNumber : WriteAnswer → ℕ
+writtenNumber (written.Given size) = 0
 writtenNumber (written.Refused k) = k
 
 -- its other result, the length: a refusal gives "all other results 0"
-abbrev pub writtenSize : Written → ℕ
-writtenSize (written.Bytes size) = size
+abbrev pub writtenSize : WriteAnswer → ℕ
+writtenSize (written.Given size) = size
 writtenSize (written.Refused k) = 0

@@ -23,8 +23,8 @@ pub struct Reading {
 }
 
 // What a write gives: the stream's length in bytes, or the refusal's number.
-pub enum Written {
-    Bytes(usize),
+pub enum WriteAnswer {
+    Given(usize),
     Refused(u8),
 }
 
@@ -53,29 +53,29 @@ pub fn read(s: &[u8]) -> Reading
 }
 
 // The plan's stream, put at the front of a lent output; what is written is read back as the same plan.
-pub fn write(plan: Plan, out: &mut [u8]) -> Written
+pub fn write(plan: Plan, out: &mut [u8]) -> WriteAnswer
     ensures is { λ r. ⌜ Wrote plan (now (out .entry)) r (now (out .exit)) ⌝ }
     ensures back { λ r. ⌜ Reread plan r (now (out .exit)) ⌝ }
 {
     let outcome = plan::check(plan);
     if let Outcome::Refused(number, _) = outcome {
-        return Written::Refused(number);
+        return WriteAnswer::Refused(number);
     }
     if out.len() < writer::stream_length(plan) {
-        return Written::Refused(refusal::ROOM);
+        return WriteAnswer::Refused(refusal::ROOM);
     }
-    Written::Bytes(writer::put_stream(out, plan))
+    WriteAnswer::Given(writer::put_stream(out, plan))
 }
 
 // A stream is read and its plan is written: the stream's own bytes again, or its refusal, or 12.
-pub fn rewritten(s: &[u8], out: &mut [u8]) -> Written
+pub fn rewritten(s: &[u8], out: &mut [u8]) -> WriteAnswer
     ensures { λ r. ⌜ Copied (now (s .entry)) (now (out .entry)) r (now (out .exit)) ⌝ }
 {
     let reading = read(s);
     let outcome = reading.outcome;
     let plan = reading.plan;
     if let Outcome::Refused(refused, _) = outcome {
-        return Written::Refused(refused);
+        return WriteAnswer::Refused(refused);
     }
     write(plan, out)
 }
@@ -87,8 +87,8 @@ pub fn reread(plan: Plan) -> Reading
     let mut bytes = [0u8; LONGEST];
     let written = write(plan, &mut bytes);
     match written {
-        Written::Bytes(size) => read(&bytes[..size]),
-        Written::Refused(number) => {
+        WriteAnswer::Given(size) => read(&bytes[..size]),
+        WriteAnswer::Refused(number) => {
             let outcome = Outcome::Refused(number, 0);
             let none = plan::no_plan();
             Reading {

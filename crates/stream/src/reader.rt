@@ -21,9 +21,9 @@ ghost use Rattle.records.specs.declared.Outcome.the-variants.{Fine};
 ghost use Rattle.plan.specs.Plan.{noClient};
 ghost use Rattle.plan.specs.Check.{ownerCheck};
 ghost use Rattle.stream.specs.Kind.{headKind, clientKind, rowKind, wholeOf, classOf, rowsOf};
-ghost use Rattle.stream.specs.Read.{toClients, place, dueCheck, headRead, clientAt, numberCheck, clientRead};
-ghost use Rattle.stream.specs.Read.{clientDue, slotCheck, slotDue, rowRead, rowDue, endRead};
-ghost use Rattle.stream.specs.Read.{restRead, readCheck, clientIn, ownerIn, planOf};
+ghost use Rattle.stream.specs.Read.{toClients, place, dueCheck, headRecordCheck, clientAt, numberCheck};
+ghost use Rattle.stream.specs.Read.{clientRecordCheck, clientDueCheck, slotCheck, slotDueCheck, rowRecordCheck};
+ghost use Rattle.stream.specs.Read.{rowDueCheck, endRecordCheck, restCheck, readCheck, clientIn, ownerIn, planOf};
 
 // ---- checks
 
@@ -38,7 +38,7 @@ fn check_due(s: &[u8], at: usize, due: u8, class: u8) -> Outcome
 
 // The record of f and n: 5, 6.
 fn check_head(s: &[u8]) -> Outcome
-    ensures { λ r. ⌜ r ≡ headRead (now (s .entry)) ⌝ }
+    ensures { λ r. ⌜ r ≡ headRecordCheck (now (s .entry)) ⌝ }
 {
     let class = kind::class_for_head(kind_at(s, 0));
     let due = check_due(s, 0, kind::HEAD, class);
@@ -75,7 +75,7 @@ fn check_number(found: u8, number: usize, at: usize) -> Outcome
 
 // A client's record: 7, 8, 9.
 fn check_client(s: &[u8], at: usize, number: usize) -> Outcome
-    ensures { λ r. ⌜ r ≡ clientRead (now (s .entry)) at number ⌝ }
+    ensures { λ r. ⌜ r ≡ clientRecordCheck (now (s .entry)) at number ⌝ }
 {
     let class = kind::class_for_client(kind_at(s, at));
     let due = check_due(s, at, kind::CLIENT, class);
@@ -90,7 +90,7 @@ fn check_client(s: &[u8], at: usize, number: usize) -> Outcome
 // The records of all clients.
 fn check_clients(s: &[u8], at: usize, n: usize) -> Outcome
     requires { ⌜ (at ≤ 4096) × (n ≤ 8) ⌝ }
-    ensures { λ r. ⌜ r ≡ firstOf (clientDue (now (s .entry)) at) n ⌝ }
+    ensures { λ r. ⌜ r ≡ firstOf (clientDueCheck (now (s .entry)) at) n ⌝ }
 {
     let mut to = at;
     let mut i = 0;
@@ -143,7 +143,7 @@ fn check_owners(s: &[u8], n: usize, at: usize) -> Outcome
 // The eight bytes of row j.
 fn check_slots(s: &[u8], f: usize, n: usize, at: usize, j: usize) -> Outcome
     requires { ⌜ (j < 8) × (at + wholeOf rowKind ≤ length (now s)) ⌝ }
-    ensures { λ r. ⌜ r ≡ firstOf (slotDue (now (s .entry)) f n at j) 8 ⌝ }
+    ensures { λ r. ⌜ r ≡ firstOf (slotDueCheck (now (s .entry)) f n at j) 8 ⌝ }
 {
     let mut t = 0;
     while t < 8 {
@@ -160,7 +160,7 @@ fn check_slots(s: &[u8], f: usize, n: usize, at: usize, j: usize) -> Outcome
 // The record of row j: 10, 11.
 fn check_row(s: &[u8], f: usize, n: usize, at: usize, j: usize) -> Outcome
     requires { ⌜ j < 8 ⌝ }
-    ensures { λ r. ⌜ r ≡ rowRead (now (s .entry)) f n at j ⌝ }
+    ensures { λ r. ⌜ r ≡ rowRecordCheck (now (s .entry)) f n at j ⌝ }
 {
     let class = kind::class_for_row(kind_at(s, at));
     let due = check_due(s, at, kind::ROW, class);
@@ -176,7 +176,7 @@ fn check_row(s: &[u8], f: usize, n: usize, at: usize, j: usize) -> Outcome
 // The records of all rows.
 fn check_rows(s: &[u8], f: usize, n: usize, at: usize) -> Outcome
     requires { ⌜ (at ≤ 4096) × (f ≤ 64) ⌝ }
-    ensures { λ r. ⌜ r ≡ firstOf (rowDue (now (s .entry)) f n at) (rowsOf f) ⌝ }
+    ensures { λ r. ⌜ r ≡ firstOf (rowDueCheck (now (s .entry)) f n at) (rowsOf f) ⌝ }
 {
     let rows = (f + 7) / 8;
     let mut to = at;
@@ -195,7 +195,7 @@ fn check_rows(s: &[u8], f: usize, n: usize, at: usize) -> Outcome
 // The end record, and nothing after it: 4.
 fn check_end(s: &[u8], at: usize) -> Outcome
     requires { ⌜ at ≤ 65536 ⌝ }
-    ensures { λ r. ⌜ r ≡ endRead (now (s .entry)) at ⌝ }
+    ensures { λ r. ⌜ r ≡ endRecordCheck (now (s .entry)) at ⌝ }
 {
     let class = kind::class_for_end(kind_at(s, at));
     let due = check_due(s, at, kind::END, class);
@@ -208,7 +208,7 @@ fn check_end(s: &[u8], at: usize) -> Outcome
 // All that follows a head that passes.
 fn check_rest(s: &[u8], f: usize, n: usize) -> Outcome
     requires { ⌜ (f ≤ 64) × (n ≤ 8) × (toClients (now s) ≡ wholeOf headKind) ⌝ }
-    ensures { λ r. ⌜ r ≡ restRead (now (s .entry)) f n ⌝ }
+    ensures { λ r. ⌜ r ≡ restCheck (now (s .entry)) f n ⌝ }
 {
     let to_clients = kind::whole_of(kind::HEAD);
     let clients = check_clients(s, to_clients, n);
@@ -238,7 +238,7 @@ pub fn check_stream(s: &[u8]) -> Outcome
 
 // The clients' requirements, 0 past n.
 fn clients_in(s: &[u8], at: usize, n: usize) -> [Client; 8]
-    requires { ⌜ (at ≤ 4096) × (n ≤ 8) × (firstOf (clientDue (now s) at) n ≡ Fine) ⌝ }
+    requires { ⌜ (at ≤ 4096) × (n ≤ 8) × (firstOf (clientDueCheck (now s) at) n ≡ Fine) ⌝ }
     ensures { λ r. ⌜ r ≡ padded (clientIn (now (s .entry)) at) n 8 noClient ⌝ }
 {
     let mut clients = [no_client(); 8];
@@ -269,7 +269,7 @@ fn put_owners(owners: &mut [u8; 64], s: &[u8], at: usize, j: usize, k: usize)
 
 // The owners, 0 past f: full rows, then what f leaves of the last one.
 fn owners_in(s: &[u8], at: usize, f: usize, n: usize) -> [u8; 64]
-    requires { ⌜ (at ≤ 4096) × (f ≤ 64) × (firstOf (rowDue (now s) f n at) (rowsOf f) ≡ Fine) ⌝ }
+    requires { ⌜ (at ≤ 4096) × (f ≤ 64) × (firstOf (rowDueCheck (now s) f n at) (rowsOf f) ≡ Fine) ⌝ }
     ensures { λ r. ⌜ r ≡ padded (ownerIn (now (s .entry)) at) f 64 0 ⌝ }
 {
     let full = f / 8;

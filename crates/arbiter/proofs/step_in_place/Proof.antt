@@ -13,8 +13,8 @@ use types.Run.{assigns, land, returns, enter, alloc1, alloc0, params1, pass1, pa
 use types.Part.{whole, sub, look-in}
 use denote.Steps.{opens, closes, heard}
 use Rattle.arbiter.specs.declared.Stepped.{Stepped}
-use Rattle.arbiter.proofs.Values.{plans, records, answers, results, row, vals, typed}
-use Rattle.arbiter.proofs.Values.{answer-fits, next-fits, makes, spells}
+use Rattle.arbiter.proofs.Values.{plans, records, replies, results, row, vals, typed}
+use Rattle.arbiter.proofs.Values.{served-fits, next-fits, makes, spells}
 use Rattle.arbiter.proofs.Walk.{by-value, by-reference, Passed, tokens, entry, Walk, proved}
 use Rattle.arbiter.proofs.Walk.{here, local, frees-local, calls-on, exits}
 use Rattle.arbiter.proofs.step as callee
@@ -74,7 +74,7 @@ walk M 𝓤 H A at-mem run W C Λ fm met p _ plan-fits _ arrivals-typed =
     (store-raw ! 1 refl (typed records W (out .next) (next-fits out out-fits))) $
     -- the answer is copied to _0
     assigns ! (of-opd ! (load ! (from ! (fld ! refl (stop !))) (look-in ! 7 (sub ! 0 refl (whole !))))) (here !)
-    (init ! 15 refl (typed answers W (out .answer) (answer-fits out out-fits))) $
+    (init ! 15 refl (typed replies W (out .served) (served-fits out out-fits))) $
     -- the borrow is closed at the next record, which is then its last
     makes ! records (out .next) (next-fits out out-fits) $
     move ! (2 ∷ 0 ∷ 3 ∷ 4 ∷ 5 ∷ []) $
@@ -89,9 +89,9 @@ walk M 𝓤 H A at-mem run W C Λ fm met p _ plan-fits _ arrivals-typed =
     frees-local ! 7 refl refl $ frees-local ! 5 refl refl $ frees-local ! 3 refl refl $
     free0 ! $
     keep ! (1 ∷ 0 ∷ []) $
-    by ! (exits W by-reference (f.clauses 𝓤 H A at-mem run) p tt (out .answer) (out .next)
-    (factI 𝓤 _ (emp 𝓤) (ap (λ (z : Stepped). z .answer) is-step, ap (λ (z : Stepped). z .next) is-step))
-    (answer-fits out out-fits))))))))))))
+    by ! (exits W by-reference (f.clauses 𝓤 H A at-mem run) p tt (out .served) (out .next)
+    (factI 𝓤 _ (emp 𝓤) (ap (λ (z : Stepped). z .served) is-step, ap (λ (z : Stepped). z .next) is-step))
+    (served-fits out out-fits))))))))))))
 
 pub step-in-place-spec : {M : Type 1} → stated.statement M
 unfolding code.routine

@@ -23,8 +23,8 @@ arrive-requires c κs =
     let n≤ = ok .checked .bounds .n-high in
     (ok .many, (omega (arith, n≤, eight), omega (arith, n≤, places)))
 
-serve-requires : tie.Need-serve-requires
-serve-requires c κs =
+serve-owner-requires : tie.Need-serve-owner-requires
+serve-owner-requires c κs =
     let start = c .before .before .before .before .before .before .before in
     let small = owner-small _ _ _ (step-fine _ _ _ (start .pre)) in
     omega (arith, small, c .before .before .before .before .wide .ensures .0)
@@ -33,8 +33,9 @@ returns : tie.Need-returns
 returns c =
     let owner = c .before .before .before .before .before .wide .ensures .0 in
     let arrived = c .before .before .arrive .ensures in
-    let served = c .serve .ensures in
+    let served = c .serve-owner .ensures in
     (rw (arrived .0, owner) at (served .0), rw (arrived .0) at (served .1), arrived .1)
 
 pub serve-slot-spec : {M : Type 1} → statement M
-serve-slot-spec = tie.close (tie.spec array-read-wide (λ c κs. search needs) arrive-requires serve-requires returns)
+serve-slot-spec =
+    tie.close (tie.spec array-read-wide (λ c κs. search needs) arrive-requires serve-owner-requires returns)

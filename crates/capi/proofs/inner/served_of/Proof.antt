@@ -3,7 +3,7 @@
 use mathlib.Core.Path.{subst}
 use Prim.Native.Nat.{_<_}
 use borrow.Author.Needs.{needs}
-use Rattle.arbiter.specs.declared.Service.{Service}
+use Rattle.arbiter.specs.declared.StepAnswer.{StepAnswer}
 use Rattle.arbiter.specs.Step.{clientServed}
 use Rattle.capi.proofs.inner.served_of.Statement.{statement}
 use Rattle.capi.proofs.inner.served_of.Tie as tie
@@ -11,7 +11,7 @@ use Rattle.capi.proofs.inner.served_of.Tie as tie
 cast-result : tie.Need-cast-result
 cast-result c =
     let start = c .before .before .before in
-    let small = subst (λ (x : Service). clientServed x < 256) (c .before .service .given .1) (start .pre) in
+    let small = subst (λ (x : StepAnswer). clientServed x < 256) (c .before .answer .given .1) (start .pre) in
     search needs
 
 pub served-of-spec : {M : Type 1} → statement M

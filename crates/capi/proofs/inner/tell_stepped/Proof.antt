@@ -10,7 +10,7 @@ use Rattle.capi.proofs.inner.tell_stepped.Tie as tie
 returns : tie.Need-returns
 returns c =
     let start = c .before .before .before .before .before .before .before .before .before .before .before in
-    let turned = start .args .stepped .answer .turned in
+    let turned = start .args .stepped .served .turned in
     let record-put = c .before .before .before .before .put-nine .ensures in
     let answer-put = c .before .put-nine2 .ensures in
     (c .number-of .ensures, record-put, answer-put ∙ ap (λ (x : ℕ). x ∷ turned) (c .before .before .served-of .ensures))

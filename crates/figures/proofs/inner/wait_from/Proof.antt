@@ -21,8 +21,8 @@ returns c =
     let refused = sym (c .before .asked .given .1) ∙ range .ensures in
     waits-refused (args .plan) (args .client) (args .waiting) _ _ fine refused
 
-wait-of-requires : tie.Need-wait-of-requires
-wait-of-requires c κs =
+least-wait-requires : tie.Need-least-wait-requires
+least-wait-requires c κs =
     let range = c .before .before .check-range in
     let given = c .before .before .before .before .figures2 in
     let start = c .before .before .before .before .before .before in
@@ -49,7 +49,7 @@ returns-3 c =
     let is = rw (given .given .1) at (start .pre) in
     let fine = given-fine (args .plan) (args .client) _ is in
     let k = sym (range .ensures) ∙ c .before .enum-told .given .1 in
-    waits-given (args .plan) (args .client) (args .waiting) _ _ fine k (is .figure fine) (c .wait-of .ensures)
+    waits-given (args .plan) (args .client) (args .waiting) _ _ fine k (is .figure fine) (c .least-wait .ensures)
 
 pub wait-from-spec : {M : Type 1} → statement M
 wait-from-spec =
@@ -61,6 +61,6 @@ wait-from-spec =
     (λ c. search needs)
     returns
     (λ c. search needs)
-    wait-of-requires
+    least-wait-requires
     returns-2
     returns-3)

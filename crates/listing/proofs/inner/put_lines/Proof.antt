@@ -59,7 +59,7 @@ loop-again c =
       omega arith,
       omega arith,
       then-line (IsReportLine plan) (loop .i) (loop .inv .2) line,
-      c .first-of .ensures plan 0 (loop .i) (loop .i + 1) (omega arith) (omega arith) (loop .inv .3) judged,
+      c .earlier .ensures plan 0 (loop .i) (loop .i + 1) (omega arith) (omega arith) (loop .inv .3) judged,
     )
 
 returns : tie.Need-returns Inv-loop μ-loop

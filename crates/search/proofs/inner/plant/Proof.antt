@@ -28,8 +28,8 @@ loop-again c =
     let e : loop .z ≡ z + 1 = omega arith in
     let done = rw e at (loop .inv .2) in (
       omega arith,
-      length-set trees z (c .number-at .result) ∙ loop .inv .1,
-      right-more plan (args .g) (plan .n) trees z (c .number-at .result) (omega arith) done (c .number-at .ensures),
+      length-set trees z (c .node-need .result) ∙ loop .inv .1,
+      right-more plan (args .g) (plan .n) trees z (c .node-need .result) (omega arith) done (c .node-need .ensures),
     )
 
 returns : tie.Need-returns Inv-loop μ-loop

@@ -5,7 +5,7 @@ use native.Mathlib.Omega.{arith}
 use borrow.Author.Needs.{needs}
 use Rattle.records.proofs.Checks.{stops, passes}
 use Rattle.stream.specs.Kind.{clientKind}
-use Rattle.stream.specs.Read.{clientRead}
+use Rattle.stream.specs.Read.{clientRecordCheck}
 use Rattle.stream.proofs.Records.{due-found}
 use Rattle.stream.proofs.reader.check_client.Statement.{statement}
 use Rattle.stream.proofs.reader.check_client.Tie as tie
@@ -14,7 +14,7 @@ check-due-requires : tie.Need-check-due-requires
 check-due-requires c κs = rw (c .before .kind-at .ensures) at (c .class-for-client .ensures)
 
 returns : tie.Need-returns
-unfolding clientRead
+unfolding clientRecordCheck
 returns c =
     let check-due = c .before .before .before .check-due in
     stops _ (check-due .ensures) (c .before .due .given .1)
@@ -36,7 +36,7 @@ client-at-requires c κs =
     due-found _ _ clientKind (check-due .ensures) (enum-told .given .1) .room
 
 returns-2 : tie.Need-returns-2
-unfolding clientRead
+unfolding clientRecordCheck
 returns-2 c =
     let check-due = c .before .before .before .before .before .before .before .check-due in
     let enum-told = c .before .before .before .before .before .enum-told in

@@ -9,13 +9,13 @@ use Rattle.records.specs.First.{firstOf}
 use Rattle.records.specs.declared.Outcome.the-variants.{Fine}
 use Rattle.records.proofs.Checks.{first-more, first-stop}
 use Rattle.stream.specs.Kind.{clientKind, wholeOf}
-use Rattle.stream.specs.Read.{clientDue}
+use Rattle.stream.specs.Read.{clientDueCheck}
 use Rattle.stream.proofs.Records.{place-clients}
 use Rattle.stream.proofs.reader.check_clients.Statement.{statement}
 use Rattle.stream.proofs.reader.check_clients.Tie as tie
 
 abbrev Inv-loop : tie.InvT-loop
-Inv-loop s at n to₀ i₀ to i = (i ≤ n) × (firstOf (clientDue s at) i ≡ Fine) × (to ≡ at + wholeOf clientKind * i)
+Inv-loop s at n to₀ i₀ to i = (i ≤ n) × (firstOf (clientDueCheck s at) i ≡ Fine) × (to ≡ at + wholeOf clientKind * i)
 
 abbrev μ-loop : tie.MeasureT-loop
 μ-loop s at n to₀ i₀ to i = n - i
@@ -25,7 +25,7 @@ unfolding firstOf
 loop-holds c = search needs
 
 returns : tie.Need-returns Inv-loop μ-loop
-unfolding clientDue
+unfolding clientDueCheck
 returns c =
     let loop-test = c .before .before .before .before .loop-test in
     let check-client = c .before .before .before .check-client in
@@ -33,11 +33,11 @@ returns c =
     let a = c .before .before .before .before .before .before .before .args in
     let there = place-clients (a .s .now) (a .at) (l .i) (l .inv .1) (l .i) (omega arith) in
     let found = rw (l .inv .2, ← there) at (check-client .ensures) in
-    first-stop (clientDue (a .s .now) (a .at)) (a .n) (l .i) (loop-test .taken) (l .inv .1) found
+    first-stop (clientDueCheck (a .s .now) (a .at)) (a .n) (l .i) (loop-test .taken) (l .inv .1) found
     (c .before .outcome .given .1)
 
 loop-again : tie.Need-loop-again Inv-loop μ-loop
-unfolding clientDue
+unfolding clientDueCheck
 loop-again c =
     let check-client = c .before .before .before .check-client in
     let l = c .before .before .before .before .before .loop in
@@ -45,7 +45,8 @@ loop-again c =
     let there = place-clients (a .s .now) (a .at) (l .i) (l .inv .1) (l .i) (omega arith) in
     let found = rw (l .inv .2, ← there) at (check-client .ensures) in
     let w = c .whole-of .ensures .0 in
-    let passed = first-more (clientDue (a .s .now) (a .at)) (l .i) (l .inv .1) found (c .before .enum-told .given .1) in
+    let fine = c .before .enum-told .given .1 in
+    let passed = first-more (clientDueCheck (a .s .now) (a .at)) (l .i) (l .inv .1) found fine in
     (omega arith, passed, omega arith)
 
 returns-2 : tie.Need-returns-2 Inv-loop μ-loop

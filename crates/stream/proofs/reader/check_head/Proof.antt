@@ -4,7 +4,7 @@ use native.Mathlib.Omega.{arith}
 use borrow.Author.Needs.{needs}
 use Rattle.records.proofs.Checks.{stops, passes}
 use Rattle.stream.specs.Kind.{headKind}
-use Rattle.stream.specs.Read.{headRead}
+use Rattle.stream.specs.Read.{headRecordCheck}
 use Rattle.stream.proofs.Records.{due-found}
 use Rattle.stream.proofs.reader.check_head.Statement.{statement}
 use Rattle.stream.proofs.reader.check_head.Tie as tie
@@ -13,7 +13,7 @@ check-due-requires : tie.Need-check-due-requires
 check-due-requires c κs = rw (c .before .kind-at .ensures) at (c .class-for-head .ensures)
 
 returns : tie.Need-returns
-unfolding headRead
+unfolding headRecordCheck
 returns c =
     let check-due = c .before .before .before .check-due in
     stops _ (check-due .ensures) (c .before .due .given .1)
@@ -30,7 +30,7 @@ shared-slice-read-wide-2 c =
     omega (arith, due-found _ 0 headKind (check-due .ensures) (enum-told .given .1) .room)
 
 returns-2 : tie.Need-returns-2
-unfolding headRead
+unfolding headRecordCheck
 returns-2 c =
     let check-due = c .before .before .before .before .before .before .before .before .before .check-due in
     let enum-told = c .before .before .before .before .before .before .before .enum-told in

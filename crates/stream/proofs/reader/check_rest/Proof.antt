@@ -8,13 +8,13 @@ use Rattle.records.specs.First.{firstOf}
 use Rattle.records.specs.declared.Outcome.the-variants.{Fine}
 use Rattle.records.proofs.Checks.{stops, passes}
 use Rattle.stream.specs.Kind.{rowsOf}
-use Rattle.stream.specs.Read.{rowDue, toClients, toRows, restRead}
+use Rattle.stream.specs.Read.{rowDueCheck, toClients, toRows, restCheck}
 use Rattle.stream.proofs.Records.{place-clients, place-rows}
 use Rattle.stream.proofs.reader.check_rest.Statement.{statement}
 use Rattle.stream.proofs.reader.check_rest.Tie as tie
 
 returns : tie.Need-returns
-unfolding restRead
+unfolding restCheck
 returns c =
     let start = c .before .before .before .before .before .before in
     let whole-of = c .before .before .before .before .whole-of in
@@ -23,7 +23,7 @@ returns c =
     stops _ (rw to at (check-clients .ensures)) (c .before .clients .given .1)
 
 returns-2 : tie.Need-returns-2
-unfolding restRead
+unfolding restCheck
 returns-2 c =
     let start = c .before .before .before .before .before .before .before .before .before .before in
     let a = start .args in
@@ -37,11 +37,11 @@ returns-2 c =
     let clients = rw to at (check-clients .ensures) in
     let k = place-clients s (toClients s) (a .n) (rw clients at (enum-told .given .1)) (a .n) (omega arith) in
     let rows = rw (clients-length .ensures, to, ← k) at (check-rows .ensures) in
-    let due = firstOf (rowDue s (a .f) (a .n) (toRows s (a .n))) (rowsOf (a .f)) in
+    let due = firstOf (rowDueCheck s (a .f) (a .n) (toRows s (a .n))) (rowsOf (a .f)) in
     passes clients (enum-told .given .1) (stops {x = due} _ rows (c .before .rows .given .1))
 
 returns-3 : tie.Need-returns-3
-unfolding restRead
+unfolding restCheck
 returns-3 c =
     let start = c .before .before .before .before .before .before .before .before .before .before .before in
     let a = start .args in
@@ -56,7 +56,7 @@ returns-3 c =
     let clients = rw to at (check-clients .ensures) in
     let k = place-clients s (toClients s) (a .n) (rw clients at (enum-told .given .1)) (a .n) (omega arith) in
     let rows = rw (clients-length .ensures, to, ← k) at (check-rows .ensures) in
-    let due = firstOf (rowDue s (a .f) (a .n) (toRows s (a .n))) (rowsOf (a .f)) in
+    let due = firstOf (rowDueCheck s (a .f) (a .n) (toRows s (a .n))) (rowsOf (a .f)) in
     let passed : due ≡ Fine = rw rows at (enum-told2 .given .1) in
     let m = place-rows s (a .f) (a .n) (toRows s (a .n)) (rowsOf (a .f)) passed (rowsOf (a .f)) (omega arith) in
     let length = c .before .rows-length .ensures in

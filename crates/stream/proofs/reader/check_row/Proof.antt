@@ -7,7 +7,7 @@ use borrow.Author.Needs.{needs}
 use Rattle.records.specs.First.{firstOf}
 use Rattle.records.proofs.Checks.{stops, passes}
 use Rattle.stream.specs.Kind.{rowKind}
-use Rattle.stream.specs.Read.{slotDue, rowRead}
+use Rattle.stream.specs.Read.{slotDueCheck, rowRecordCheck}
 use Rattle.stream.proofs.Records.{due-found, full-row}
 use Rattle.stream.proofs.reader.check_row.Statement.{statement}
 use Rattle.stream.proofs.reader.check_row.Tie as tie
@@ -16,7 +16,7 @@ check-due-requires : tie.Need-check-due-requires
 check-due-requires c κs = rw (c .before .kind-at .ensures) at (c .class-for-row .ensures)
 
 returns : tie.Need-returns
-unfolding rowRead
+unfolding rowRecordCheck
 returns c =
     let check-due = c .before .before .before .check-due in
     stops _ (check-due .ensures) (c .before .due .given .1)
@@ -27,12 +27,12 @@ check-owners-requires c κs =
     due-found _ _ rowKind (check-due .ensures) (c .before .enum-told .given .1) .room
 
 returns-2 : tie.Need-returns-2
-unfolding rowRead
+unfolding rowRecordCheck
 returns-2 c =
     let a = c .before .before .before .before .before .before .before .before .args in
     let check-due = c .before .before .before .before .check-due in
     let enum-told = c .before .before .enum-told in
-    let slots = firstOf (slotDue (a .s .now) (a .f) (a .n) (a .at) (a .j)) 8 in
+    let slots = firstOf (slotDueCheck (a .s .now) (a .f) (a .n) (a .at) (a .j)) 8 in
     let full = full-row (a .s .now) (a .f) (a .n) (a .at) (a .j) (omega arith) in
     passes {y = slots} (check-due .ensures) (enum-told .given .1) (c .check-owners .ensures ∙ full)
 
@@ -42,12 +42,12 @@ check-slots-requires c κs =
     (search needs, due-found _ _ rowKind (check-due .ensures) (c .before .enum-told .given .1) .room)
 
 returns-3 : tie.Need-returns-3
-unfolding rowRead
+unfolding rowRecordCheck
 returns-3 c =
     let a = c .before .before .before .before .before .before .before .before .args in
     let check-due = c .before .before .before .before .check-due in
     let enum-told = c .before .before .enum-told in
-    let slots = firstOf (slotDue (a .s .now) (a .f) (a .n) (a .at) (a .j)) 8 in
+    let slots = firstOf (slotDueCheck (a .s .now) (a .f) (a .n) (a .at) (a .j)) 8 in
     passes {y = slots} (check-due .ensures) (enum-told .given .1) (c .check-slots .ensures)
 
 pub check-row-spec : {M : Type 1} → statement M

@@ -12,13 +12,13 @@ use Rattle.records.specs.Pieces.{padded}
 use Rattle.records.specs.declared.Outcome.the-variants.{Fine}
 use Rattle.records.proofs.Lists.{padded-none}
 use Rattle.stream.specs.Kind.{rowsOf}
-use Rattle.stream.specs.Read.{place, rowDue, ownerIn}
+use Rattle.stream.specs.Read.{place, rowDueCheck, ownerIn}
 use Rattle.stream.proofs.Records.{rows-fine, place-rows}
 use Rattle.stream.proofs.reader.owners_in.Statement.{statement}
 use Rattle.stream.proofs.reader.owners_in.Tie as tie
 
 -- the first k bytes of row j
-row-room : (s : List ℕ) (f n at j k : ℕ) → firstOf (rowDue s f n at) (rowsOf f) ≡ Fine → 8 * j + k ≤ f → k ≤ 8
+row-room : (s : List ℕ) (f n at j k : ℕ) → firstOf (rowDueCheck s f n at) (rowsOf f) ≡ Fine → 8 * j + k ≤ f → k ≤ 8
     → (t : ℕ) → t < k → place s at j + (1 + t) < length s
 row-room s f n at j k h l m t b = omega (arith, rows-fine s f n at (rowsOf f) h j (omega arith) .whole .room)
 

@@ -1,4 +1,4 @@
--- `search::inner::number_at` meets its contract: above the leaves it is the least that the two nodes below allow, at a
+-- `search::inner::node_need` meets its contract: above the leaves it is the least that the two nodes below allow, at a
 -- leaf what the verdict says, and no filling leads past the leaves.
 -- Assumes nothing.
 use mathlib.Core.Path.{_≡_, ap, _∙_}
@@ -8,8 +8,8 @@ use borrow.Author.Needs.{needs}
 use lib.ListN.{getD}
 use Rattle.explore.proofs.Needs.{node-below}
 use Rattle.search.proofs.Planting.{leaves-small, leaves-shifted, leaves-doubled}
-use Rattle.search.proofs.inner.number_at.Statement.{statement}
-use Rattle.search.proofs.inner.number_at.Tie as tie
+use Rattle.search.proofs.inner.node_need.Statement.{statement}
+use Rattle.search.proofs.inner.node_need.Tie as tie
 
 element-copy-out-least-need : tie.Need-element-copy-out-least-need
 element-copy-out-least-need c =
@@ -60,8 +60,8 @@ returns-3 c =
           absurd (omega (arith, leaves, past, leads, node-below (args .i + 1) owners (args .g + 1) (omega arith)));
     }
 
-pub number-at-spec : {M : Type 1} → statement M
-number-at-spec =
+pub node-need-spec : {M : Type 1} → statement M
+node-need-spec =
     tie.close
     (tie.spec
     (λ c. search needs)

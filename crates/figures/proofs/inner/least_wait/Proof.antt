@@ -1,12 +1,12 @@
--- `figures::inner::wait_of` meets its contract: what is divided is m − 1 above L + k × f.
+-- `figures::inner::least_wait` meets its contract: what is divided is m − 1 above L + k × f.
 -- Assumes nothing.
 use Prim.Native.Nat.{ℕ, _*_, _≤_}
 use native.Mathlib.Nat.{mul-le-mul}
 use native.Mathlib.Omega.{arith}
 use borrow.Author.Needs.{needs}
 use Rattle.frame.proofs.Scaled.{wait-by}
-use Rattle.figures.proofs.inner.wait_of.Statement.{statement}
-use Rattle.figures.proofs.inner.wait_of.Tie as tie
+use Rattle.figures.proofs.inner.least_wait.Statement.{statement}
+use Rattle.figures.proofs.inner.least_wait.Tie as tie
 
 product : (k f : ℕ) → k ≤ 255 → f ≤ 64 → k * f ≤ 16320
 product k f l h = mul-le-mul l h
@@ -32,5 +32,5 @@ returns c =
     let figure = args .figure in
     wait-by (args .f) (figure .slots) (figure .scaled) (args .waiting) _ (omega arith) (omega arith)
 
-pub wait-of-spec : {M : Type 1} → statement M
-wait-of-spec = tie.close (tie.spec mul-due add-due (λ c. search needs) add-result (λ c. search needs) returns)
+pub least-wait-spec : {M : Type 1} → statement M
+least-wait-spec = tie.close (tie.spec mul-due add-due (λ c. search needs) add-result (λ c. search needs) returns)

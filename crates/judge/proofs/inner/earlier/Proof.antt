@@ -1,9 +1,9 @@
--- `judge::inner::first_of` meets its contract: where all of the first group are ok the second decides, else the first.
+-- `judge::inner::earlier` meets its contract: where all of the first group are ok the second decides, else the first.
 -- Assumes nothing.
 use borrow.Author.Needs.{needs}
 use Rattle.judge.proofs.Laws.{first-stops, judged-on}
-use Rattle.judge.proofs.inner.first_of.Statement.{statement}
-use Rattle.judge.proofs.inner.first_of.Tie as tie
+use Rattle.judge.proofs.inner.earlier.Statement.{statement}
+use Rattle.judge.proofs.inner.earlier.Tie as tie
 
 returns : tie.Need-returns
 returns c plan from mid to low high first second =
@@ -22,8 +22,8 @@ returns-3 c plan from mid to low high first second =
     let e = c .enum-told3 .given .1 in
     rw e (first-stops plan from mid to _ _ high (rw e at first))
 
-pub first-of-spec : {M : Type 1} → statement M
-first-of-spec =
+pub earlier-spec : {M : Type 1} → statement M
+earlier-spec =
     tie.close
     (tie.spec
     (λ c. search needs)

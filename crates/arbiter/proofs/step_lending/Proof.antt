@@ -1,4 +1,4 @@
--- `arbiter::step_lent` meets its contract: the record is copied to a local, which is lent to `step_in_place` for a
+-- `arbiter::step_lending` meets its contract: the record is copied to a local, which is lent to `step_in_place` for a
 -- lifetime made for the call, and comes back at the record that the callee's contract says. The proof walks the MIR by
 -- hand. Of `step_in_place` it takes only that it meets its contract. It names no fields but those of a step's result.
 -- Assumes nothing.
@@ -21,25 +21,25 @@ use types.Tokens.{lft-new, lft-end}
 use denote.Memory.{mem, partOf, cellAt}
 use denote.Lend.{lends-ref, ref-back}
 use denote.Steps.{heard, nothing}
-use Rattle.arbiter.specs.declared.Answer.{Answer}
+use Rattle.arbiter.specs.declared.Served.{Served}
 use Rattle.arbiter.specs.declared.Arbiter.{Arbiter}
 use Rattle.arbiter.specs.declared.Stepped.{Stepped}
 use Rattle.arbiter.proofs.Arbiter.Laws.{mir as record-type}
-use Rattle.arbiter.proofs.Values.{plans, records, answers, results, row, value, vals, typed, result-fits, spells}
+use Rattle.arbiter.proofs.Values.{plans, records, replies, results, row, value, vals, typed, result-fits, spells}
 use Rattle.arbiter.proofs.Walk.{by-value, by-reference, Passed, Arb, tokens, entry, Walk, proved}
 use Rattle.arbiter.proofs.Walk.{here, local, frees-local, calls-on, exits}
 use Rattle.arbiter.proofs.step_in_place as callee
 use Rattle.arbiter.proofs.step_in_place.Symbol as callee-symbol
 use Rattle.arbiter.proofs.step_in_place.Symbol.{name as #arbiter·step-in-place}
 use Rattle.arbiter.proofs.step_in_place.Met as callee-met
-use Rattle.arbiter.proofs.step_lent.Key.{name as #arbiter·step-lent}
-use Rattle.arbiter.proofs.step_lent as f
-use Rattle.arbiter.proofs.step_lent.Statement as stated
-use Rattle.arbiter.proofs.step_lent.Code as code
+use Rattle.arbiter.proofs.step_lending.Key.{name as #arbiter·step-lending}
+use Rattle.arbiter.proofs.step_lending as f
+use Rattle.arbiter.proofs.step_lending.Statement as stated
+use Rattle.arbiter.proofs.step_lending.Code as code
 
 -- what the code puts together
-abbrev result : Answer → Arbiter → Stepped
-result answer next = record { answer = answer; next = next }
+abbrev result : Served → Arbiter → Stepped
+result served next = record { served = served; next = next }
 
 -- what is passed to `step_in_place`: the local at l is lent for the lifetime ν, under the name γ
 abbrev call : Passed by-value → (ν l : ℕ) → GName → Passed by-reference
@@ -90,9 +90,9 @@ walk M 𝓤 H A at-mem run W C Λ fm met p _ plan-fits arb-fits arrivals-typed =
     use2 W (tokens (call p ν l₄ γ) A) (id⊢ 𝓤 _) $
     calls-on W by-reference (callee.clauses 𝓤 H A at-mem run) (call p ν l₄ γ) tt fm met (id⊢ 𝓤 _) plan-fits
     (and-then ! (local ! 13 refl) (and-then ! (local ! 4 refl) (and-then ! (local ! 9 refl) (no-more !))))
-    (λ answer next answer-fits.
+    (λ served next served-fits.
     heard ! _ (λ is-step.
-    land ! (here !) (init ! 7 refl (typed answers W answer answer-fits)) $
+    land ! (here !) (init ! 7 refl (typed replies W served served-fits)) $
     -- [the record's last value; the tokens; the lender's part;
     --  _7; …; _6; …; _5; …; … of _4; _3; …; _2; …; _1; …; room for _0; …]
     -- the lifetime is ended, and _4 comes back at the last value
@@ -106,7 +106,7 @@ walk M 𝓤 H A at-mem run W C Λ fm met p _ plan-fits arb-fits arrivals-typed =
     fpick ! (λ vs.
     fsplit ! $
     spells ! records next vs l₄ 0 (λ next-fits.
-    let out-fits = result-fits (result answer next) answer-fits next-fits in
+    let out-fits = result-fits (result served next) served-fits next-fits in
     use1 W (‵ (fat fullShare record-type l₄ 0 (value records next)))
     (W .laws .raw-at fullShare record-type l₄ 0 (value records next)) $
     move ! (1 ∷ 0 ∷ 9 ∷ []) $
@@ -116,19 +116,19 @@ walk M 𝓤 H A at-mem run W C Λ fm met p _ plan-fits arb-fits arrivals-typed =
     assigns ! (of-opd ! (local ! 0 refl)) (here !) (init ! 3 refl (typed records W next next-fits)) $
     -- the result is put together in _0, of _5 and _7
     assigns ! (agg ! (and-then ! (local ! 7 refl) (and-then ! (local ! 3 refl) (no-more !)))) (here !)
-    (init ! 15 refl (typed results W (result answer next) out-fits)) $
+    (init ! 15 refl (typed results W (result served next) out-fits)) $
     -- the return, and the locals are freed, from _0 up
     returns ! (look ! 15 refl) $
     frees-local ! 15 refl refl $ frees-local ! 13 refl refl $ frees-local ! 11 refl refl $ frees-local ! 9 refl refl $
     frees-local ! 0 refl refl $ frees-local ! 5 refl refl $ frees-local ! 3 refl refl $ frees-local ! 1 refl refl $
     free0 ! $
     nothing ! $
-    by ! (exits W by-value (f.clauses 𝓤 H A at-mem run) p tt (result answer next) tt
+    by ! (exits W by-value (f.clauses 𝓤 H A at-mem run) p tt (result served next) tt
     (factI 𝓤 _ (emp 𝓤) (λ i. result (is-step .0 i) (is-step .1 i))) out-fits)))))))))))))))
 
-pub step-lent-spec : {M : Type 1} → stated.statement M
+pub step-lending-spec : {M : Type 1} → stated.statement M
 unfolding code.routine
-step-lent-spec 𝓤 H 𝓜 𝓖 𝓡 =
+step-lending-spec 𝓤 H 𝓜 𝓖 𝓡 =
     proved 𝓤 H 𝓜 𝓖 𝓡 by-value by-reference (λ _. f.clauses) (λ _. callee.clauses) code.function
-    #arbiter·step-lent #arbiter·step-in-place walk code.env
+    #arbiter·step-lending #arbiter·step-in-place walk code.env
     (code.unfolded 𝓤 H 𝓜 𝓡) callee-symbol.routine code.calls-arbiter·step-in-place (callee-met.met 𝓤 H 𝓜 𝓖 𝓡)
