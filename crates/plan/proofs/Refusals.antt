@@ -1,22 +1,22 @@
--- A plan's refusals have a number up to 10, those of a question about a client up to 13; the offset that is handed in
--- and, outside reading, offset 0.
+-- A plan's refusals: their numbers, the offset that is handed in and, outside reading, offset 0.
 -- Assumes nothing.
 use mathlib.Core.Path.{_≡_, refl}
-use mathlib.Core.Logic.{inl}
+use mathlib.Core.Bool.{true}
+use mathlib.Core.List.{List, [], _∷_}
 use Prim.Native.Nat.{ℕ, _≤_}
-use native.Mathlib.Omega.{arith}
 use lib.Dec.{leb}
 use Rattle.records.specs.Refusal as refusal
-use Rattle.records.specs.First.{between, unless, rangeCheck, orElse, firstOf, offsetOf, Numbered}
+use Rattle.records.specs.First.{between, unless, rangeCheck, orElse, firstOf, offsetOf, among, Gives}
 use Rattle.records.specs.declared.Outcome.{Outcome}
 use Rattle.records.specs.declared.Outcome.the-variants.{Fine}
-use Rattle.records.proofs.Refusals.{or-each, first-each, unless-numbered, range-numbered, unless-within, unless-unread}
-use Rattle.records.proofs.Refusals.{range-unread}
+use Rattle.records.proofs.Refusals.{or-each, first-each, unless-gives, range-gives, or-gives, first-gives}
+use Rattle.records.proofs.Refusals.{unless-within, unless-unread, range-unread}
 use Rattle.plan.specs.declared.Client.{Client}
 use Rattle.plan.specs.declared.Plan.{Plan}
 use Rattle.plan.specs.Plan.{clientOf, ownerOf}
 use Rattle.plan.specs.Check.{frameCheck, countCheck, clientCheck, ownerCheck, clientCheckOf, requirementsCheck}
 use Rattle.plan.specs.Check.{ownerCheckOf, ownersCheck, planCheck, askedCheck}
+use Rattle.plan.specs.Entries.{requirementsNumbers, planNumbers, askedNumbers}
 
 -- what holds of what each check finds holds of what the requirements' check finds
 requirements-each : (P : Outcome → Type 0) → P Fine → ((f : ℕ) → P (frameCheck f)) → ((n : ℕ) → P (countCheck n))
@@ -38,35 +38,39 @@ plan-each P z owner plan requirements =
 
 -- ---- numbers
 
-pub client-numbered : (most : ℕ) (c : Client) (offset : ℕ) → refusal.owner ≤ most → Numbered most (clientCheck c offset)
+pub client-gives : (ks : List ℕ) (c : Client) (offset : ℕ) → among refusal.rate ks ≡ true
+    → among refusal.latency ks ≡ true → Gives ks (clientCheck c offset)
 unfolding clientCheck
-client-numbered most c offset h =
-    or-each (Numbered most)
+client-gives ks c offset rate latency =
+    or-each (Gives ks)
     (unless (between 1 (c .p) (c .q)) refusal.rate offset) (unless (leb 1 (c .b)) refusal.latency offset)
-    (unless-numbered most (between 1 (c .p) (c .q)) refusal.rate offset (omega arith) (omega arith))
-    (unless-numbered most (leb 1 (c .b)) refusal.latency offset (omega arith) (omega arith))
+    (unless-gives ks (between 1 (c .p) (c .q)) refusal.rate offset rate)
+    (unless-gives ks (leb 1 (c .b)) refusal.latency offset latency)
 
-pub owner-numbered : (most owner n offset : ℕ) → refusal.owner ≤ most → Numbered most (ownerCheck owner n offset)
+pub owner-gives : (ks : List ℕ) (owner n offset : ℕ) → among refusal.owner ks ≡ true
+    → Gives ks (ownerCheck owner n offset)
 unfolding ownerCheck
-owner-numbered most owner n offset h = unless-numbered most (leb owner n) refusal.owner offset (omega arith) h
+owner-gives ks owner n offset h = unless-gives ks (leb owner n) refusal.owner offset h
 
-pub requirements-numbered : (most : ℕ) → refusal.owner ≤ most → (plan : Plan) → Numbered most (requirementsCheck plan)
-requirements-numbered most h =
-    requirements-each (Numbered most) (inl refl)
-    (λ f. range-numbered most f 64 refusal.frame (omega arith) (omega arith))
-    (λ n. range-numbered most n 8 refusal.count (omega arith) (omega arith))
-    (λ c. client-numbered most c 0 h)
+pub requirements-gives : (plan : Plan) → Gives requirementsNumbers (requirementsCheck plan)
+requirements-gives =
+    let ks : List ℕ = requirementsNumbers in
+    requirements-each (Gives ks) tt (λ f. range-gives ks f 64 refusal.frame refl)
+    (λ n. range-gives ks n 8 refusal.count refl) (λ c. client-gives ks c 0 refl refl)
 
-pub plan-numbered : (most : ℕ) → refusal.owner ≤ most → (plan : Plan) → Numbered most (planCheck plan)
-plan-numbered most h plan =
-    plan-each (Numbered most) (inl refl) (λ owner n. owner-numbered most owner n 0 h) plan
-    (requirements-numbered most h plan)
+pub plan-gives : (plan : Plan) → Gives planNumbers (planCheck plan)
+unfolding planCheck ownersCheck ownerCheckOf
+plan-gives plan =
+    let ks : List ℕ = 10 ∷ [] in
+    or-gives requirementsNumbers ks (requirementsCheck plan) (ownersCheck plan) (requirements-gives plan)
+    (first-gives ks (ownerCheckOf plan) (λ x. owner-gives ks (ownerOf plan x) (plan .n) 0 refl) (plan .f))
 
-pub asked-numbered : (most : ℕ) → refusal.asked ≤ most → (plan : Plan) (c : ℕ) → Numbered most (askedCheck plan c)
+pub asked-gives : (plan : Plan) (c : ℕ) → Gives askedNumbers (askedCheck plan c)
 unfolding askedCheck
-asked-numbered most h plan c =
-    or-each (Numbered most) (planCheck plan) (rangeCheck c (plan .n) refusal.asked)
-    (plan-numbered most (omega arith) plan) (range-numbered most c (plan .n) refusal.asked (omega arith) h)
+asked-gives plan c =
+    let ks : List ℕ = 13 ∷ [] in
+    or-gives planNumbers ks (planCheck plan) (rangeCheck c (plan .n) refusal.asked) (plan-gives plan)
+    (range-gives ks c (plan .n) refusal.asked refl)
 
 -- ---- offsets
 
@@ -86,7 +90,7 @@ owner-within most owner n offset h = unless-within most (leb owner n) refusal.ow
 abbrev unread : Outcome → Type 0
 unread o = offsetOf o ≡ 0
 
-requirements-unread : (plan : Plan) → unread (requirementsCheck plan)
+pub requirements-unread : (plan : Plan) → offsetOf (requirementsCheck plan) ≡ 0
 unfolding clientCheck
 requirements-unread =
     requirements-each unread refl
@@ -101,3 +105,9 @@ pub plan-unread : (plan : Plan) → offsetOf (planCheck plan) ≡ 0
 unfolding ownerCheck
 plan-unread plan =
     plan-each unread refl (λ owner n. unless-unread (leb owner n) refusal.owner) plan (requirements-unread plan)
+
+pub asked-unread : (plan : Plan) (c : ℕ) → offsetOf (askedCheck plan c) ≡ 0
+unfolding askedCheck
+asked-unread plan c =
+    or-each unread (planCheck plan) (rangeCheck c (plan .n) refusal.asked) (plan-unread plan)
+    (range-unread c (plan .n) refusal.asked)

@@ -2,7 +2,10 @@
 -- Assumes nothing.
 pub mod Checks
 pub mod Refusals
+pub mod Said
+pub mod Entry
 pub mod Lists
 pub mod Parts
 pub mod Puts
 pub mod Words
+pub mod Entries

@@ -1,20 +1,21 @@
 -- What holds of every refusal of each check holds of the first that applies: its number is the document's; its offset
 -- lies in the stream or at its end, and is 0 outside reading.
 -- Assumes nothing.
-use mathlib.Core.Path.{_≡_, refl}
+use mathlib.Core.Path.{_≡_, refl, sym, ap, _∙_}
 use mathlib.Core.Bool.{Bool, true, false}
-use mathlib.Core.List.{List}
-use mathlib.Core.Logic.{inl, inr}
+use mathlib.Core.List.{List, [], _∷_, _++_}
 use Prim.Native.Nat.{ℕ, zero, suc, _-_, _≤_, _<_}
 use native.Mathlib.Omega.{arith}
 use lib.Dec.{ltb, leb, eqb}
 use lib.ListN.{length}
-use borrow.Author.Tests.{eqb-false, leb-false}
+use borrow.Author.Tests.{leb-false}
 use Rattle.records.specs.Refusal as refusal
-use Rattle.records.specs.First.{between, unless, rangeCheck, orElse, firstOf, numberOf, offsetOf, Numbered}
+use Rattle.records.specs.First.{pick, between, unless, rangeCheck, orElse, firstOf, numberOf, offsetOf, among}
+use Rattle.records.specs.First.{Gives}
 use Rattle.records.specs.Record.{recordCheck, overCheck}
 use Rattle.records.specs.declared.Outcome.{Outcome}
 use Rattle.records.specs.declared.Outcome.the-variants.{Fine, Refused}
+use Rattle.records.proofs.Checks.{false-true}
 
 -- ---- any property of what checks find
 
@@ -39,39 +40,64 @@ first-each P z g h n = first-reached P z g n (λ i l e. h i)
 
 -- ---- numbers
 
-pub unless-numbered : (most : ℕ) (b : Bool) (k offset : ℕ) → 1 ≤ k → k ≤ most → Numbered most (unless b k offset)
-unless-numbered most true k offset l h = inl refl
-unless-numbered most false k offset l h = inr (l, h)
+pub unless-gives : (ks : List ℕ) (b : Bool) (k offset : ℕ) → among k ks ≡ true → Gives ks (unless b k offset)
+unless-gives ks true k offset h = tt
+unless-gives ks false k offset h = h
 
-pub range-numbered : (most x high k : ℕ) → 1 ≤ k → k ≤ most → Numbered most (rangeCheck x high k)
+pub range-gives : (ks : List ℕ) (x high k : ℕ) → among k ks ≡ true → Gives ks (rangeCheck x high k)
 unfolding rangeCheck
-range-numbered most x high k l h = unless-numbered most (between 1 x high) k 0 l h
+range-gives ks x high k h = unless-gives ks (between 1 x high) k 0 h
+
+among-by : (b : Bool) {x y : Bool} → (x ≡ true → y ≡ true) → pick b true x ≡ true → pick b true y ≡ true
+among-by true f h = refl
+among-by false f h = f h
+
+among-rest : (b : Bool) {x : Bool} → x ≡ true → pick b true x ≡ true
+among-rest true h = refl
+among-rest false h = h
+
+among-left : (k : ℕ) (a b : List ℕ) → among k a ≡ true → among k (a ++ b) ≡ true
+among-left k [] b h = false-true h
+among-left k (x ∷ a) b h = among-by (eqb k x) (among-left k a b) h
+
+among-right : (k : ℕ) (a b : List ℕ) → among k b ≡ true → among k (a ++ b) ≡ true
+among-right k [] b h = h
+among-right k (x ∷ a) b h = among-rest (eqb k x) (among-right k a b h)
+
+-- the numbers of two checks, one after the other
+pub or-gives : (a b : List ℕ) (x y : Outcome) → Gives a x → Gives b y → Gives (a ++ b) (orElse x y)
+or-gives a b Fine Fine p q = tt
+or-gives a b Fine (Refused k offset) p q = among-right k a b q
+or-gives a b (Refused k offset) y p q = among-left k a b p
+
+pub first-gives : (ks : List ℕ) (g : ℕ → Outcome) → ((i : ℕ) → Gives ks (g i)) → (n : ℕ) → Gives ks (firstOf g n)
+first-gives ks = first-each (Gives ks) tt
 
 -- a number 0 says that nothing is refused
-pub numbered-fine : (most : ℕ) (o : Outcome) → Numbered most o → numberOf o ≡ 0 → o ≡ Fine
-numbered-fine most o (inl e) z = e
-numbered-fine most o (inr h) z = absurd (omega (arith, h .0))
+pub gives-fine : (ks : List ℕ) → among 0 ks ≡ false → (o : Outcome) → Gives ks o → numberOf o ≡ 0 → o ≡ Fine
+gives-fine ks none Fine h z = refl
+gives-fine ks none (Refused k offset) h z = false-true (sym none ∙ ap (λ (n : ℕ). among n ks) (sym z) ∙ h)
 
-class-numbered : (most class at : ℕ) (b : Bool) → eqb class 0 ≡ b → class ≤ most → Numbered most (unless b class at)
-class-numbered most class at true e h = inl refl
-class-numbered most zero at false e h = absurd (eqb-false zero 0 e refl)
-class-numbered most (suc k) at false e h = inr (omega arith, h)
+class-gives : (ks : List ℕ) (class at : ℕ) (b : Bool) → eqb class 0 ≡ b → among class (0 ∷ ks) ≡ true
+    → Gives ks (unless b class at)
+class-gives ks class at true e h = tt
+class-gives ks class at false e h = rw e at h
 
-pub record-numbered : (most : ℕ) (s : List ℕ) (at class body : ℕ) → 1 ≤ most → class ≤ most
-    → Numbered most (recordCheck s at class body)
+pub record-gives : (ks : List ℕ) (s : List ℕ) (at class body : ℕ) → among refusal.ended ks ≡ true
+    → among class (0 ∷ ks) ≡ true → Gives ks (recordCheck s at class body)
 unfolding recordCheck
-record-numbered most s at class body l h =
+record-gives ks s at class body l h =
     let begun : Outcome = unless (ltb at (length s)) refusal.ended (length s) in
     let due : Outcome = unless (eqb class 0) class at in
     let whole : Outcome = unless (ltb body (length s - at)) refusal.ended at in
-    or-each (Numbered most) begun (orElse due whole)
-    (unless-numbered most (ltb at (length s)) refusal.ended (length s) (omega arith) l)
-    (or-each (Numbered most) due whole (class-numbered most class at (eqb class 0) refl h)
-    (unless-numbered most (ltb body (length s - at)) refusal.ended at (omega arith) l))
+    or-each (Gives ks) begun (orElse due whole)
+    (unless-gives ks (ltb at (length s)) refusal.ended (length s) l)
+    (or-each (Gives ks) due whole (class-gives ks class at (eqb class 0) refl h)
+    (unless-gives ks (ltb body (length s - at)) refusal.ended at l))
 
-pub over-numbered : (most : ℕ) (s : List ℕ) (at : ℕ) → refusal.followed ≤ most → Numbered most (overCheck s at)
+pub over-gives : (ks : List ℕ) (s : List ℕ) (at : ℕ) → among refusal.followed ks ≡ true → Gives ks (overCheck s at)
 unfolding overCheck
-over-numbered most s at h = unless-numbered most (leb (length s) at) refusal.followed at (omega arith) h
+over-gives ks s at h = unless-gives ks (leb (length s) at) refusal.followed at h
 
 -- ---- offsets
 

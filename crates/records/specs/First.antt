@@ -1,9 +1,9 @@
 -- Checks in order: "The first that applies is given" (document 01, Refusal numbers).
 use mathlib.Core.Path.{_≡_}
 use mathlib.Core.Bool.{Bool, true, false}
-use mathlib.Core.Logic.{_⊎_}
-use Prim.Native.Nat.{ℕ, zero, suc, _≤_}
-use lib.Dec.{leb}
+use mathlib.Core.List.{List, [], _∷_}
+use Prim.Native.Nat.{ℕ, zero, suc}
+use lib.Dec.{leb, eqb}
 use Rattle.records.specs.declared.Outcome.{Outcome}
 use Rattle.records.specs.declared.Outcome.the-variants.{Fine, Refused}
 
@@ -50,6 +50,12 @@ abbrev pub RefusedBy : Outcome → ℕ → Type 0
 RefusedBy Fine number = ⊥
 RefusedBy (Refused k offset) number = number ≡ k
 
--- "Each refusal has its number", 1 to most
-abbrev pub Numbered : ℕ → Outcome → Type 0
-Numbered most o = (o ≡ Fine) ⊎ ((1 ≤ numberOf o) × (numberOf o ≤ most))
+-- x stands in the list
+abbrev pub among : ℕ → List ℕ → Bool
+among x [] = false
+among x (y ∷ ys) = pick (eqb x y) true (among x ys)
+
+-- "Each refusal has its number": an outcome that refuses does so with one of these
+abbrev pub Gives : List ℕ → Outcome → Type 0
+Gives numbers Fine = Unit {0}
+Gives numbers (Refused k offset) = among k numbers ≡ true
