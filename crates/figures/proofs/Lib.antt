@@ -2,6 +2,8 @@
 -- Assumes nothing.
 pub mod Laws
 pub mod Questions
+pub mod Refusals
 pub mod Answers
 pub mod Once
 pub mod Same
+pub mod Entries

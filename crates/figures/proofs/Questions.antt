@@ -1,23 +1,18 @@
 -- Questions about a client's figures and waits: one passes exactly when its plan is checked, it names a client and that
--- client owns a slot; each refusal has its number.
+-- client owns a slot.
 -- Assumes nothing.
 use mathlib.Core.Path.{_≡_}
 use Prim.Native.Nat.{ℕ, _≤_, _<_}
-use native.Mathlib.Omega.{arith}
-use lib.Dec.{leb}
 use borrow.Author.Tests.{le-leb, lt-leb, leb-true}
 use Rattle.frame.specs.Frame.{slotsOf}
 use Rattle.records.specs.Refusal as refusal
-use Rattle.records.specs.First.{Numbered}
 use Rattle.records.specs.declared.Outcome.the-variants as outcome
 use Rattle.records.proofs.Checks.{both-fine, unless-fine, range-fine, range-pass}
-use Rattle.records.proofs.Refusals.{or-each, unless-numbered, range-numbered}
 use Rattle.plan.specs.declared.Plan.{Plan}
 use Rattle.plan.specs.Plan.{ownOf}
 use Rattle.plan.specs.Check.{askedCheck}
 use Rattle.plan.proofs.Laws.{Checked, asked-fine, asked-pass}
-use Rattle.plan.proofs.Refusals.{asked-numbered}
-use Rattle.figures.specs.Check.{ownsCheck, figureCheck, mostWaiting, waitingCheck, waitCheck}
+use Rattle.figures.specs.Check.{ownsCheck, figureCheck, mostWaiting, waitCheck}
 
 -- ---- figures
 
@@ -27,13 +22,6 @@ owns-none plan c l = simp (lt-leb 1 (slotsOf (ownOf plan c) (plan .f)) l)
 
 pub owns-some : (plan : Plan) (c : ℕ) → 1 ≤ slotsOf (ownOf plan c) (plan .f) → ownsCheck plan c ≡ outcome.Fine
 owns-some plan c l = simp (le-leb 1 (slotsOf (ownOf plan c) (plan .f)) l)
-
--- "Each refusal has its number"
-pub figure-numbered : (most : ℕ) → refusal.noSlot ≤ most → (plan : Plan) (c : ℕ) → Numbered most (figureCheck plan c)
-unfolding figureCheck
-figure-numbered most h plan c =
-    or-each (Numbered most) (askedCheck plan c) (ownsCheck plan c) (asked-numbered most (omega arith) plan c)
-    (unless-numbered most (leb 1 (slotsOf (ownOf plan c) (plan .f))) refusal.noSlot 0 (omega arith) h)
 
 -- what a plan and a client have that pass
 pub record Asked (plan : Plan) (c : ℕ) : Type 0 where
@@ -73,10 +61,3 @@ pub wait-pass : (plan : Plan) (c k : ℕ) → Waited plan c k → waitCheck plan
 unfolding waitCheck
 wait-pass plan c k ok =
     rw (figure-pass plan c (ok .asked)) (range-pass k mostWaiting refusal.waiting (ok .low) (ok .high))
-
-pub wait-numbered : (most : ℕ) → refusal.waiting ≤ most → (plan : Plan) (c k : ℕ)
-    → Numbered most (waitCheck plan c k)
-unfolding waitCheck
-wait-numbered most h plan c k =
-    or-each (Numbered most) (figureCheck plan c) (waitingCheck k)
-    (figure-numbered most (omega arith) plan c) (range-numbered most k mostWaiting refusal.waiting (omega arith) h)

@@ -1,11 +1,10 @@
 -- Plans that are the same get the same answers: places past f and past n are not read.
 -- Assumes nothing.
-use mathlib.Core.Path.{_≡_, refl, ap, _∙_, fun-ext}
+use mathlib.Core.Path.{_≡_, fun-ext}
 use Prim.Native.Nat.{ℕ, _<_}
-use Rattle.records.specs.First.{orElse, numberOf}
-use Rattle.records.specs.declared.Outcome.{Outcome}
-use Rattle.records.specs.declared.Outcome.the-variants.{Fine, Refused}
-use Rattle.records.proofs.Checks.{both-fine}
+use Rattle.records.specs.declared.Outcome.the-variants.{Fine}
+use Rattle.records.proofs.Checks.{both-fine, or-same}
+use Rattle.records.proofs.Said.{answers-same}
 use Rattle.plan.specs.declared.Plan.{Plan}
 use Rattle.plan.specs.Plan.{ownOf, Same}
 use Rattle.plan.specs.Check.{askedCheck}
@@ -13,12 +12,8 @@ use Rattle.plan.proofs.Laws.{asked-fine, same-asked, own-same}
 use Rattle.figures.specs.declared.FigureAnswer.{FigureAnswer}
 use Rattle.figures.specs.declared.WaitAnswer.{WaitAnswer}
 use Rattle.figures.specs.Check.{ownsCheck, figureCheck, waitCheck}
-use Rattle.figures.specs.Figures.{IsFigure, figureIn, IsFigures, Waits, waitIn, IsWaitFor}
+use Rattle.figures.specs.Figures.{IsFigure, figureSaid, IsFigures, Waits, waitSaid, IsWaitFor}
 use Rattle.figures.proofs.Questions.{figure-fine}
-
-or-same : (x x′ y y′ : Outcome) → x ≡ x′ → (x ≡ Fine → y ≡ y′) → orElse x y ≡ orElse x′ y′
-or-same Fine x′ y y′ e h = rw (← e) (h refl)
-or-same (Refused k offset) x′ y y′ e h = rw (← e)
 
 module _ (plan other : Plan) (same : Same plan other) (c : ℕ) where
   slots-same : 0 < plan .f → ownOf plan c ≡ ownOf other c
@@ -36,25 +31,17 @@ module _ (plan other : Plan) (same : Same plan other) (c : ℕ) where
   wait-check-same k = rw figure-check-same
 
   -- what holds of the client's slots in one plan holds in the other
-  carried : (P : (ℕ → ℕ) → ℕ → Type 0) → figureCheck other c ≡ Fine
-      → (figureCheck plan c ≡ Fine → P (ownOf plan c) (plan .f)) → P (ownOf other c) (other .f)
-  carried P h holds =
-      let fine : figureCheck plan c ≡ Fine = figure-check-same ∙ h in
-      let own = slots-same (figure-fine plan c fine .checked .bounds .f-low) in
-      rw (own, same .frame) at (holds fine)
+  carried : (P : (ℕ → ℕ) → ℕ → Type 0) → figureCheck plan c ≡ Fine → P (ownOf plan c) (plan .f)
+      → P (ownOf other c) (other .f)
+  carried P fine holds =
+      rw (slots-same (figure-fine plan c fine .checked .bounds .f-low), same .frame) at holds
 
   pub figures-same : (r : FigureAnswer) → IsFigures plan c r → IsFigures other c r
-  figures-same r is =
-      record {
-        number = is .number ∙ ap numberOf figure-check-same;
-        figure = λ h. carried (λ own f. IsFigure own f (figureIn r)) h (is .figure);
-      }
+  figures-same r =
+      answers-same figure-check-same (λ fine x. carried (λ own f. IsFigure own f x) fine) (figureSaid r)
 
   pub waits-same : (k : ℕ) (r : WaitAnswer) → IsWaitFor plan c k r → IsWaitFor other c k r
   unfolding waitCheck
-  waits-same k r is =
-      record {
-        number = is .number ∙ ap numberOf (wait-check-same k);
-        wait = λ h.
-            carried (λ own f. Waits own f k (waitIn r)) (both-fine _ _ h .0) (λ e. is .wait (wait-check-same k ∙ h));
-      }
+  waits-same k r =
+      answers-same (wait-check-same k) (λ fine x. carried (λ own f. Waits own f k x) (both-fine _ _ fine .0))
+      (waitSaid r)

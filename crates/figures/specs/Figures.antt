@@ -1,9 +1,8 @@
--- A client's figures (document 01, Figures), and what the answers' cases mean: the document's number, and the values.
+-- A client's figures (document 01, Figures), and what is answered about them.
 use mathlib.Core.Path.{_≡_}
 use Prim.Native.Nat.{ℕ}
 use Rattle.frame.specs.Frame.{slotsOf, IsScaled, IsWait}
-use Rattle.records.specs.First.{numberOf}
-use Rattle.records.specs.declared.Outcome.the-variants.{Fine}
+use Rattle.records.specs.Said.{Said, given, refused, Answers}
 use Rattle.plan.specs.declared.Plan.{Plan}
 use Rattle.plan.specs.Plan.{ownOf}
 use Rattle.figures.specs.declared.Figure.{Figure}
@@ -20,24 +19,14 @@ pub record IsFigure (own : ℕ → ℕ) (f : ℕ) (figure : Figure) : Type 0 whe
   pub slots : figure .slots ≡ slotsOf own f
   pub scaled : IsScaled own f (slotsOf own f) (figure .scaled)
 
--- an answer's number, 0 where nothing is refused
-abbrev pub figuresNumber : FigureAnswer → ℕ
-figuresNumber (figures.Given figure) = 0
-figuresNumber (figures.Refused number) = number
+-- what an answer says
+abbrev pub figureSaid : FigureAnswer → Said Figure
+figureSaid (figures.Given figure) = given figure
+figureSaid (figures.Refused number) = refused number
 
--- "all other results 0"
-abbrev pub noFigure : Figure
-noFigure = record { slots = 0; scaled = 0 }
-
--- an answer's values: "A refusal .. returns its number with all other results 0"
-abbrev pub figureIn : FigureAnswer → Figure
-figureIn (figures.Given figure) = figure
-figureIn (figures.Refused number) = noFigure
-
--- what an answer about client c is; where nothing is refused m is above 0, so that it is not a refusal
-pub record IsFigures (plan : Plan) (c : ℕ) (r : FigureAnswer) : Type 0 where
-  pub number : figuresNumber r ≡ numberOf (figureCheck plan c)
-  pub figure : figureCheck plan c ≡ Fine → IsFigure (ownOf plan c) (plan .f) (figureIn r)
+-- what an answer about client c is
+abbrev pub IsFigures : Plan → ℕ → FigureAnswer → Type 0
+IsFigures plan c r = Answers (figureCheck plan c) (IsFigure (ownOf plan c) (plan .f)) (figureSaid r)
 
 -- ---- waits
 
@@ -47,17 +36,11 @@ pub record Waits (own : ℕ → ℕ) (f k wait : ℕ) : Type 0 where
   pub scaled : IsScaled own f (slotsOf own f) L
   pub least : IsWait f (slotsOf own f) L k wait
 
--- an answer's number, 0 where nothing is refused
-abbrev pub waitNumber : WaitAnswer → ℕ
-waitNumber (wait.Given slots) = 0
-waitNumber (wait.Refused number) = number
+-- what an answer says
+abbrev pub waitSaid : WaitAnswer → Said ℕ
+waitSaid (wait.Given slots) = given slots
+waitSaid (wait.Refused number) = refused number
 
--- an answer's value, 0 in a refusal
-abbrev pub waitIn : WaitAnswer → ℕ
-waitIn (wait.Given slots) = slots
-waitIn (wait.Refused number) = 0
-
--- what an answer about client c and k waiting requests is; where nothing is refused the wait is above 0, too
-pub record IsWaitFor (plan : Plan) (c k : ℕ) (r : WaitAnswer) : Type 0 where
-  pub number : waitNumber r ≡ numberOf (waitCheck plan c k)
-  pub wait : waitCheck plan c k ≡ Fine → Waits (ownOf plan c) (plan .f) k (waitIn r)
+-- what an answer about client c and k waiting requests is
+abbrev pub IsWaitFor : Plan → (c k : ℕ) → WaitAnswer → Type 0
+IsWaitFor plan c k r = Answers (waitCheck plan c k) (Waits (ownOf plan c) (plan .f) k) (waitSaid r)

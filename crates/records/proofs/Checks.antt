@@ -86,6 +86,11 @@ pub refused-fine : {A : Type 0} (o : Outcome) (k : ℕ) → RefusedBy o k → o 
 refused-fine Fine k h e = absurd h
 refused-fine (Refused number offset) k h e = not-fine e
 
+-- the first check that refuses has its number given
+pub refused-first : (x y : Outcome) (k : ℕ) → RefusedBy x k → RefusedBy (orElse x y) k
+refused-first Fine y k h = absurd h
+refused-first (Refused number offset) y k h = h
+
 -- v, what the first check found, decides where it refuses
 pub stops : {v x : Outcome} {k offset : ℕ} (y : Outcome) → v ≡ x → v ≡ Refused k offset → Refused k offset ≡ orElse x y
 stops {v} {x} {k} {offset} y e h = let q : x ≡ Refused k offset = sym e ∙ h in rw q
@@ -93,6 +98,11 @@ stops {v} {x} {k} {offset} y e h = let q : x ≡ Refused k offset = sym e ∙ h 
 -- and where it passes, what the second found
 pub passes : {v x y r : Outcome} → v ≡ x → v ≡ Fine → r ≡ y → r ≡ orElse x y
 passes {v} {x} {y} {r} e h f = let q : x ≡ Fine = sym e ∙ h in rw q f
+
+-- checks that agree find the same; the second ones are looked at where the first pass
+pub or-same : (x x′ y y′ : Outcome) → x ≡ x′ → (x ≡ Fine → y ≡ y′) → orElse x y ≡ orElse x′ y′
+or-same Fine x′ y y′ e h = rw (← e) (h refl)
+or-same (Refused k offset) x′ y y′ e h = rw (← e)
 
 -- ---- the first that applies
 
@@ -129,7 +139,6 @@ first-fine g (suc n) h i l =
     let b = both-fine (firstOf g n) (g n) h in
     ⊎-elim (λ (e : i ≡ n). rw e (b .1)) (λ (m : i < n). first-fine g n (b .0) i m) (last-or-below i n l)
 
--- checks that agree find the same
 pub first-same : (g h : ℕ → Outcome) (n : ℕ) → ((i : ℕ) → i < n → g i ≡ h i) → firstOf g n ≡ firstOf h n
 unfolding firstOf
 first-same g h zero e = refl

@@ -1,20 +1,16 @@
 -- `figures::figure_of` meets its contract: the plan's checks and 13 decide where they refuse, else the client can be
 -- asked about.
 -- Assumes nothing.
-use mathlib.Core.Path.{sym, _∙_}
+use mathlib.Core.Path.{refl, sym, _∙_}
 use borrow.Author.Needs.{needs}
-use Rattle.records.proofs.Checks.{stops}
+use Rattle.records.proofs.Checks.{refuses, stops}
 use Rattle.figures.specs.Check.{figureCheck}
-use Rattle.figures.proofs.Answers.{figures-refused}
 use Rattle.figures.proofs.figure_of.Statement.{statement}
 use Rattle.figures.proofs.figure_of.Tie as tie
 
 returns : tie.Need-returns
 unfolding figureCheck
-returns c =
-    let asked = c .before .before .before .check-asked in
-    let args = c .before .before .before .before .args in
-    figures-refused (args .plan) (args .client) _ _ (stops _ (asked .ensures) (c .before .asked .given .1))
+returns c = refuses (stops _ (c .before .before .before .check-asked .ensures) (c .before .asked .given .1)) refl
 
 figures-of-requires : tie.Need-figures-of-requires
 figures-of-requires c κs = sym (c .before .before .check-asked .ensures) ∙ c .enum-told .given .1

@@ -1,13 +1,12 @@
 -- `figures::inner::figures_of` meets its contract: the checks before have passed, so 14 decides where it refuses, else
 -- the figure is given.
 -- Assumes nothing.
-use mathlib.Core.Path.{sym}
+use mathlib.Core.Path.{refl, sym}
 use native.Mathlib.Omega.{arith}
-use Rattle.records.specs.Refusal as refusal
+use Rattle.records.proofs.Checks.{refuses, passes}
 use Rattle.plan.proofs.Laws.{asked-fine}
 use Rattle.figures.specs.Check.{figureCheck}
 use Rattle.figures.proofs.Questions.{owns-none, owns-some}
-use Rattle.figures.proofs.Answers.{figures-refused, figures-given}
 use Rattle.figures.proofs.inner.figures_of.Statement.{statement}
 use Rattle.figures.proofs.inner.figures_of.Tie as tie
 
@@ -20,7 +19,7 @@ returns c =
     let start = c .before .before in
     let args = start .args in
     let none = owns-none (args .plan) (args .client) (omega (arith, c .before .slots .ensures)) in
-    figures-refused (args .plan) (args .client) refusal.noSlot 0 (rw (start .pre) (sym none))
+    refuses (passes refl (start .pre) (sym none)) refl
 
 figure-requires : tie.Need-figure-requires
 figure-requires c κs =
@@ -34,7 +33,7 @@ returns-2 c =
     let start = c .before .before .before in
     let args = start .args in
     let some = owns-some (args .plan) (args .client) (omega (arith, c .before .before .slots .ensures)) in
-    figures-given (args .plan) (args .client) _ (rw (start .pre) some) (c .figure .ensures)
+    (rw (start .pre) some, c .figure .ensures)
 
 pub figures-of-spec : {M : Type 1} → statement M
 figures-of-spec = tie.close (tie.spec slots-requires returns figure-requires returns-2)

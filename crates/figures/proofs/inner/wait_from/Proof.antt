@@ -1,38 +1,33 @@
 -- `figures::inner::wait_from` meets its contract: a refused figure is a refused wait; where the figure is given, 15
 -- decides, or the wait is that of the figure.
 -- Assumes nothing.
-use mathlib.Core.Path.{sym, _∙_}
+use mathlib.Core.Path.{refl, sym, _∙_}
 use borrow.Author.Needs.{needs}
 use Rattle.records.specs.Refusal as refusal
-use Rattle.records.proofs.Checks.{range-fine}
-use Rattle.figures.specs.Check.{mostWaiting}
+use Rattle.records.proofs.Checks.{range-fine, refuses, passes}
+use Rattle.figures.specs.Check.{mostWaiting, waitCheck}
 use Rattle.figures.proofs.Questions.{figure-fine}
-use Rattle.figures.proofs.Answers.{given-fine, figure-small, waits-refused, waits-given, waits-stopped}
+use Rattle.figures.proofs.Answers.{given-small, waits-given, waits-stopped}
 use Rattle.figures.proofs.inner.wait_from.Statement.{statement}
 use Rattle.figures.proofs.inner.wait_from.Tie as tie
 
 returns : tie.Need-returns
+unfolding waitCheck
 returns c =
-    let range = c .before .before .before .check-range in
     let given = c .before .before .before .before .before .figures2 in
-    let start = c .before .before .before .before .before .before .before in
-    let args = start .args in
-    let fine = given-fine (args .plan) (args .client) _ (rw (given .given .1) at (start .pre)) in
-    let refused = sym (c .before .asked .given .1) ∙ range .ensures in
-    waits-refused (args .plan) (args .client) (args .waiting) _ _ fine refused
+    let is = rw (given .given .1) at (c .before .before .before .before .before .before .before .pre) in
+    refuses (passes refl (is .0) (c .before .before .before .check-range .ensures)) (c .before .asked .given .1)
 
 least-wait-requires : tie.Need-least-wait-requires
 least-wait-requires c κs =
     let range = c .before .before .check-range in
-    let given = c .before .before .before .before .figures2 in
     let start = c .before .before .before .before .before .before in
     let args = start .args in
-    let is = rw (given .given .1) at (start .pre) in
-    let fine = given-fine (args .plan) (args .client) _ is in
-    let asked = figure-fine (args .plan) (args .client) fine in
-    let small = figure-small (args .plan) (args .client) _ asked (is .figure fine) in
+    let is = rw (c .before .before .before .before .figures2 .given .1) at (start .pre) in
+    let small = given-small (args .plan) (args .client) _ is in
     let k = range-fine (args .waiting) mostWaiting refusal.waiting (sym (range .ensures) ∙ c .enum-told .given .1) in
-    ((asked .checked .bounds .f-high, small .0, small .1), (small .2, k .1))
+    let bounds = figure-fine (args .plan) (args .client) (is .0) .checked .bounds in
+    ((bounds .f-high, small .0, small .1), (small .2, k .1))
 
 returns-2 : tie.Need-returns-2
 returns-2 c =
@@ -43,13 +38,11 @@ returns-2 c =
 returns-3 : tie.Need-returns-3
 returns-3 c =
     let range = c .before .before .before .check-range in
-    let given = c .before .before .before .before .before .figures2 in
     let start = c .before .before .before .before .before .before .before in
     let args = start .args in
-    let is = rw (given .given .1) at (start .pre) in
-    let fine = given-fine (args .plan) (args .client) _ is in
+    let is = rw (c .before .before .before .before .before .figures2 .given .1) at (start .pre) in
     let k = sym (range .ensures) ∙ c .before .enum-told .given .1 in
-    waits-given (args .plan) (args .client) (args .waiting) _ _ fine k (is .figure fine) (c .least-wait .ensures)
+    waits-given (args .plan) (args .client) _ is (args .waiting) _ k (c .least-wait .ensures)
 
 pub wait-from-spec : {M : Type 1} → statement M
 wait-from-spec =
