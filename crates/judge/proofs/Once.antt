@@ -1,27 +1,20 @@
--- Any two answers that a contract of judging allows are equal: there is one verdict, one first client that is not ok,
--- and one first stretch that shows it. An answer's number is that of its check.
+-- There is one verdict of a client, and one judgement: one first client that is not ok, and one first stretch that shows
+-- it.
 -- Assumes nothing.
-use mathlib.Core.Path.{_≡_, refl, sym, ap, _∙_}
+use mathlib.Core.Path.{_≡_, refl, sym, _∙_}
 use mathlib.Core.Bool.{false}
 use Prim.Native.Nat.{ℕ, _+_, _<_}
 use native.Mathlib.Decide.{decLt}
 use native.Mathlib.Omega.{arith}
-use Rattle.records.specs.First.{numberOf}
-use Rattle.records.proofs.Checks.{false-true, refused-number, refused-fine}
+use Rattle.records.proofs.Checks.{false-true}
 use Rattle.plan.specs.declared.Client.{Client}
 use Rattle.plan.specs.declared.Plan.{Plan}
 use Rattle.plan.specs.Plan.{clientOf, ownOf}
-use Rattle.plan.specs.Check.{planCheck, askedCheck}
 use Rattle.judge.specs.declared.Verdict.{Verdict}
 use Rattle.judge.specs.declared.Verdict.the-variants.{Ok, Rate, Late}
 use Rattle.judge.specs.declared.Judgement.{Judgement}
-use Rattle.judge.specs.declared.JudgeAnswer.{JudgeAnswer}
-use Rattle.judge.specs.declared.JudgeAnswer.the-variants as judged
-use Rattle.judge.specs.declared.VerdictAnswer.{VerdictAnswer}
-use Rattle.judge.specs.declared.VerdictAnswer.the-variants as verdicts
 use Rattle.judge.specs.Rules.{hasRate, IsOk, IsLate, IsVerdict}
-use Rattle.judge.specs.Judge.{ClientOk, AllOk, First, JudgedAs, IsJudged, judgedNumber, IsVerdictOf}
-use Rattle.judge.specs.Judge.{verdictNumber}
+use Rattle.judge.specs.Judge.{ClientOk, AllOk, First, JudgedAs, IsJudgement}
 
 -- ---- one client
 
@@ -113,22 +106,22 @@ module _ (plan : Plan) (from to : ℕ) where
       let i = b .place in
       lacking-not-late (clientOf plan i) (ownOf plan (i + 1)) (plan .f) s j (rw e at (a .fails)) (b .fails)
 
-  pub judgement-one : (v v′ : Verdict) (c c′ s s′ j j′ : ℕ) → JudgedAs plan from to v c s j
+  fields-one : (v v′ : Verdict) (c c′ s s′ j j′ : ℕ) → JudgedAs plan from to v c s j
       → JudgedAs plan from to v′ c′ s′ j′ → (v ≡ v′) × (c ≡ c′) × (s ≡ s′) × (j ≡ j′)
-  judgement-one Ok Ok c c′ s s′ j j′ a b = (refl, a .1 ∙ sym (b .1), a .2 ∙ sym (b .2), a .3 ∙ sym (b .3))
-  judgement-one Ok Rate c c′ s s′ j j′ a b = absurd (none-fails c′ Lacks lacks-spoils (a .0) (b .0))
-  judgement-one Ok Late c c′ s s′ j j′ a b = absurd (none-fails c′ (Lags s′ j′) (lags-spoils s′ j′) (a .0) b)
-  judgement-one Rate Ok c c′ s s′ j j′ a b = absurd (none-fails c Lacks lacks-spoils (b .0) (a .0))
-  judgement-one Rate Rate c c′ s s′ j j′ a b = (
+  fields-one Ok Ok c c′ s s′ j j′ a b = (refl, a .1 ∙ sym (b .1), a .2 ∙ sym (b .2), a .3 ∙ sym (b .3))
+  fields-one Ok Rate c c′ s s′ j j′ a b = absurd (none-fails c′ Lacks lacks-spoils (a .0) (b .0))
+  fields-one Ok Late c c′ s s′ j j′ a b = absurd (none-fails c′ (Lags s′ j′) (lags-spoils s′ j′) (a .0) b)
+  fields-one Rate Ok c c′ s s′ j j′ a b = absurd (none-fails c Lacks lacks-spoils (b .0) (a .0))
+  fields-one Rate Rate c c′ s s′ j j′ a b = (
     refl,
     client-one c c′ Lacks Lacks lacks-spoils lacks-spoils (a .0) (b .0),
     a .1 ∙ sym (b .1),
     a .2 ∙ sym (b .2),
   )
-  judgement-one Rate Late c c′ s s′ j j′ a b = absurd (lacks-not-lags c c′ s′ j′ (a .0) b)
-  judgement-one Late Ok c c′ s s′ j j′ a b = absurd (none-fails c (Lags s j) (lags-spoils s j) (b .0) a)
-  judgement-one Late Rate c c′ s s′ j j′ a b = absurd (lacks-not-lags c′ c s j (b .0) a)
-  judgement-one Late Late c c′ s s′ j j′ a b =
+  fields-one Rate Late c c′ s s′ j j′ a b = absurd (lacks-not-lags c c′ s′ j′ (a .0) b)
+  fields-one Late Ok c c′ s s′ j j′ a b = absurd (none-fails c (Lags s j) (lags-spoils s j) (b .0) a)
+  fields-one Late Rate c c′ s s′ j j′ a b = absurd (lacks-not-lags c′ c s j (b .0) a)
+  fields-one Late Late c c′ s s′ j j′ a b =
       let P = Lags s j in
       let Q = Lags s′ j′ in
       let e = place-one c c′ P Q (lags-spoils s j) (lags-spoils s′ j′) a b in
@@ -137,36 +130,13 @@ module _ (plan : Plan) (from to : ℕ) where
       late-one (clientOf plan i) (ownOf plan (i + 1)) (plan .f) s j s′ j′ (rw e at (a .fails)) (b .fails) in
       (refl, client-one c c′ P Q (lags-spoils s j) (lags-spoils s′ j′) a b, same .0, same .1)
 
--- ---- answers
-
-judgement-alike : (v v′ : Verdict) (c c′ s s′ j j′ : ℕ) → (v ≡ v′) × (c ≡ c′) × (s ≡ s′) × (j ≡ j′)
+same-judgement : (v v′ : Verdict) (c c′ s s′ j j′ : ℕ) → (v ≡ v′) × (c ≡ c′) × (s ≡ s′) × (j ≡ j′)
     → _≡_ {A = Judgement}
     (record { client = c; verdict = v; start = s; length = j })
     (record { client = c′; verdict = v′; start = s′; length = j′ })
-judgement-alike v v′ c c′ s s′ j j′ e = rw (e .0, e .1, e .2, e .3)
+same-judgement v v′ c c′ s s′ j j′ e = rw (e .0, e .1, e .2, e .3)
 
-pub judged-number : (plan : Plan) (r : JudgeAnswer) → IsJudged plan r → judgedNumber r ≡ numberOf (planCheck plan)
-judged-number plan (judged.Given found) is = sym (ap numberOf (is .0))
-judged-number plan (judged.Refused k) is = refused-number (planCheck plan) k is
-
-pub judged-once : (plan : Plan) (r r′ : JudgeAnswer) → IsJudged plan r → IsJudged plan r′ → r ≡ r′
-judged-once plan (judged.Given a) (judged.Given b) is is′ =
-    ap judged.Given (judgement-alike _ _ _ _ _ _ _ _
-    (judgement-one plan 0 (plan .n) (a .verdict) (b .verdict) _ _ _ _ _ _ (is .1) (is′ .1)))
-judged-once plan (judged.Given a) (judged.Refused k) is is′ = refused-fine (planCheck plan) k is′ (is .0)
-judged-once plan (judged.Refused k) (judged.Given b) is is′ = refused-fine (planCheck plan) k is (is′ .0)
-judged-once plan (judged.Refused k) (judged.Refused k′) is is′ =
-    ap judged.Refused (refused-number (planCheck plan) k is ∙ sym (refused-number (planCheck plan) k′ is′))
-
-pub verdicts-number : (plan : Plan) (c : ℕ) (r : VerdictAnswer) → IsVerdictOf plan c r
-    → verdictNumber r ≡ numberOf (askedCheck plan c)
-verdicts-number plan c (verdicts.Given verdict) is = sym (ap numberOf (is .0))
-verdicts-number plan c (verdicts.Refused k) is = refused-number (askedCheck plan c) k is
-
-pub verdicts-once : (plan : Plan) (c : ℕ) (r r′ : VerdictAnswer) → IsVerdictOf plan c r → IsVerdictOf plan c r′ → r ≡ r′
-verdicts-once plan c (verdicts.Given a) (verdicts.Given b) is is′ =
-    ap verdicts.Given (verdict-one _ _ _ a b (is .1) (is′ .1))
-verdicts-once plan c (verdicts.Given a) (verdicts.Refused k) is is′ = refused-fine (askedCheck plan c) k is′ (is .0)
-verdicts-once plan c (verdicts.Refused k) (verdicts.Given b) is is′ = refused-fine (askedCheck plan c) k is (is′ .0)
-verdicts-once plan c (verdicts.Refused k) (verdicts.Refused k′) is is′ =
-    ap verdicts.Refused (refused-number (askedCheck plan c) k is ∙ sym (refused-number (askedCheck plan c) k′ is′))
+pub judgement-one : (plan : Plan) (from to : ℕ) (a b : Judgement) → IsJudgement plan from to a
+    → IsJudgement plan from to b → a ≡ b
+judgement-one plan from to a b is is′ =
+    same-judgement _ _ _ _ _ _ _ _ (fields-one plan from to (a .verdict) (b .verdict) _ _ _ _ _ _ is is′)

@@ -1,21 +1,23 @@
 -- Plans that are the same are judged alike: places past f and past n are not read.
 -- Assumes nothing.
-use mathlib.Core.Path.{_≡_, sym, _∙_, fun-ext}
+use mathlib.Core.Path.{_≡_, fun-ext}
 use mathlib.Core.Bool.{false}
 use Prim.Native.Nat.{ℕ, _+_, _-_, _≤_, _<_}
 use native.Mathlib.Omega.{arith}
+use Rattle.records.specs.declared.Outcome.the-variants.{Fine}
+use Rattle.records.proofs.Said.{answers-same}
 use Rattle.plan.specs.declared.Client.{Client}
 use Rattle.plan.specs.declared.Plan.{Plan}
 use Rattle.plan.specs.Plan.{clientOf, ownOf, Same}
+use Rattle.plan.specs.Check.{planCheck, askedCheck}
 use Rattle.plan.proofs.Laws.{plan-fine, asked-fine, same-check, same-asked, own-same}
 use Rattle.judge.specs.declared.Verdict.{Verdict}
 use Rattle.judge.specs.declared.Verdict.the-variants.{Ok, Rate, Late}
+use Rattle.judge.specs.declared.Judgement.{Judgement}
 use Rattle.judge.specs.declared.JudgeAnswer.{JudgeAnswer}
-use Rattle.judge.specs.declared.JudgeAnswer.the-variants as judged
 use Rattle.judge.specs.declared.VerdictAnswer.{VerdictAnswer}
-use Rattle.judge.specs.declared.VerdictAnswer.the-variants as verdicts
 use Rattle.judge.specs.Rules.{hasRate, IsOk, IsLate, IsVerdict}
-use Rattle.judge.specs.Judge.{AllOk, First, JudgedAs, IsJudged, IsVerdictOf}
+use Rattle.judge.specs.Judge.{AllOk, First, JudgedAs, IsJudgement, judgeSaid, IsJudged, verdictSaid, IsVerdictOf}
 
 module _ (plan other : Plan) (same : Same plan other) (f> : 0 < plan .f) where
   -- what holds of a client in one plan holds in the other
@@ -49,19 +51,24 @@ module _ (plan other : Plan) (same : Same plan other) (f> : 0 < plan .f) where
 
 pub verdicts-same : (plan other : Plan) → Same plan other → (c : ℕ) (r : VerdictAnswer) → IsVerdictOf plan c r
     → IsVerdictOf other c r
-verdicts-same plan other same c (verdicts.Given verdict) is =
-    let asked = asked-fine plan c (is .0) in
-    let f> = asked .0 .bounds .f-low in
-    let place : c - 1 + 1 ≡ c = omega (arith, asked .1) in
-    let P : Client → (ℕ → ℕ) → ℕ → Type 0 = λ x own f. IsVerdict x own f verdict in
-    let i< : c - 1 < plan .n = omega (arith, asked .1, asked .2) in
-    let there = client-same plan other same f> P (c - 1) i< (rw place (is .1)) in
-    (sym (same-asked plan other same c) ∙ is .0, rw place at there)
-verdicts-same plan other same c (verdicts.Refused k) is = rw (same-asked plan other same c) at is
+verdicts-same plan other same c r = answers-same (same-asked plan other same c) by (verdictSaid r)
+  where
+    by : askedCheck plan c ≡ Fine → (verdict : Verdict)
+        → IsVerdict (clientOf plan (c - 1)) (ownOf plan c) (plan .f) verdict
+        → IsVerdict (clientOf other (c - 1)) (ownOf other c) (other .f) verdict
+    by fine verdict is =
+        let asked = asked-fine plan c fine in
+        let place : c - 1 + 1 ≡ c = omega (arith, asked .1) in
+        let P : Client → (ℕ → ℕ) → ℕ → Type 0 = λ x own f. IsVerdict x own f verdict in
+        let i< : c - 1 < plan .n = omega (arith, asked .1, asked .2) in
+        rw place at (client-same plan other same (asked .0 .bounds .f-low) P (c - 1) i< (rw place is))
 
 pub judged-same : (plan other : Plan) → Same plan other → (r : JudgeAnswer) → IsJudged plan r → IsJudged other r
-judged-same plan other same (judged.Given found) is =
-    let f> = plan-fine plan (is .0) .bounds .f-low in
-    let there = judgement-same plan other same f> 0 (plan .n) (omega arith) (found .verdict) _ _ _ (is .1) in
-    (sym (same-check plan other same) ∙ is .0, rw (same .count) at there)
-judged-same plan other same (judged.Refused k) is = rw (same-check plan other same) at is
+judged-same plan other same r = answers-same (same-check plan other same) by (judgeSaid r)
+  where
+    by : planCheck plan ≡ Fine → (found : Judgement) → IsJudgement plan 0 (plan .n) found
+        → IsJudgement other 0 (other .n) found
+    by fine found is =
+        let f> = plan-fine plan fine .bounds .f-low in
+        let there = judgement-same plan other same f> 0 (plan .n) (omega arith) (found .verdict) _ _ _ is in
+        rw (same .count) at there

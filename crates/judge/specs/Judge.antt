@@ -1,10 +1,8 @@
--- Which plans are accepted, where judging stops, and what the answers' cases mean (document 01, Judging and searching).
+-- Which plans are accepted, where judging stops, and what is answered (document 01, Judging and searching).
 use mathlib.Core.Path.{_≡_}
 use mathlib.Core.Bool.{false}
-use mathlib.Core.List.{List, [], _∷_}
 use Prim.Native.Nat.{ℕ, _+_, _-_, _<_, _≤_}
-use Rattle.records.specs.First.{RefusedBy}
-use Rattle.records.specs.declared.Outcome.the-variants.{Fine}
+use Rattle.records.specs.Said.{Said, given, refused, Answers}
 use Rattle.plan.specs.declared.Plan.{Plan}
 use Rattle.plan.specs.Plan.{clientOf, ownOf}
 use Rattle.plan.specs.Check.{planCheck, askedCheck}
@@ -57,40 +55,23 @@ IsJudgement plan from to r = JudgedAs plan from to (r .verdict) (r .client) (r .
 abbrev pub acceptance : Judgement
 acceptance = record { client = 0; verdict = Ok; start = 0; length = 0 }
 
+-- what an answer says
+abbrev pub judgeSaid : JudgeAnswer → Said Judgement
+judgeSaid (judged.Given found) = given found
+judgeSaid (judged.Refused number) = refused number
+
 -- what judging a plan answers
 abbrev pub IsJudged : Plan → JudgeAnswer → Type 0
-IsJudged plan (judged.Given found) = (planCheck plan ≡ Fine) × IsJudgement plan 0 (plan .n) found
-IsJudged plan (judged.Refused number) = RefusedBy (planCheck plan) number
-
--- an answer's number, 0 where nothing is refused
-abbrev pub judgedNumber : JudgeAnswer → ℕ
-judgedNumber (judged.Given found) = 0
-judgedNumber (judged.Refused number) = number
-
--- an answer's client, start and length: "A refusal .. returns its number with all other results 0"
-abbrev pub judgedValues : JudgeAnswer → List ℕ
-judgedValues (judged.Given found) = found .client ∷ found .start ∷ found .length ∷ []
-judgedValues (judged.Refused number) = 0 ∷ 0 ∷ 0 ∷ []
-
--- and its verdict: a refusal has none
-abbrev pub judgedVerdict : JudgeAnswer → List Verdict
-judgedVerdict (judged.Given found) = found .verdict ∷ []
-judgedVerdict (judged.Refused number) = []
+IsJudged plan r = Answers (planCheck plan) (IsJudgement plan 0 (plan .n)) (judgeSaid r)
 
 -- ---- one client
 
+-- what an answer says
+abbrev pub verdictSaid : VerdictAnswer → Said Verdict
+verdictSaid (verdicts.Given verdict) = given verdict
+verdictSaid (verdicts.Refused number) = refused number
+
 -- what is answered of client c: the plan's checks, 13, then its verdict; a client without slots has one, too
 abbrev pub IsVerdictOf : Plan → ℕ → VerdictAnswer → Type 0
-IsVerdictOf plan c (verdicts.Given verdict) =
-    (askedCheck plan c ≡ Fine) × IsVerdict (clientOf plan (c - 1)) (ownOf plan c) (plan .f) verdict
-IsVerdictOf plan c (verdicts.Refused number) = RefusedBy (askedCheck plan c) number
-
--- an answer's number, 0 where nothing is refused
-abbrev pub verdictNumber : VerdictAnswer → ℕ
-verdictNumber (verdicts.Given verdict) = 0
-verdictNumber (verdicts.Refused number) = number
-
--- an answer's verdict: a refusal has none
-abbrev pub verdictIn : VerdictAnswer → List Verdict
-verdictIn (verdicts.Given verdict) = verdict ∷ []
-verdictIn (verdicts.Refused number) = []
+IsVerdictOf plan c r =
+    Answers (askedCheck plan c) (IsVerdict (clientOf plan (c - 1)) (ownOf plan c) (plan .f)) (verdictSaid r)

@@ -1,0 +1,46 @@
+-- The rows of `judge` hold, and are their entries' own contracts.
+-- Assumes nothing.
+use mathlib.Core.Path.{_≡_, refl}
+use Rattle.records.specs.Entry.{Tight, contract, Keeps}
+use Rattle.records.proofs.Entry.{tight-says}
+use Rattle.plan.specs.Plan.{Same}
+use Rattle.plan.proofs.Refusals.{plan-gives, asked-gives}
+use Rattle.judge.specs.declared.JudgeAnswer.{JudgeAnswer}
+use Rattle.judge.specs.declared.JudgeAnswer.the-variants as judged
+use Rattle.judge.specs.declared.VerdictAnswer.{VerdictAnswer}
+use Rattle.judge.specs.declared.VerdictAnswer.the-variants as verdicts
+use Rattle.judge.specs.Judge.{judgeSaid, verdictSaid}
+use Rattle.judge.specs.Entries.{judgeEntry, verdictEntry}
+use Rattle.judge.proofs.Once.{verdict-one, judgement-one}
+use Rattle.judge.proofs.Same.{judged-same, verdicts-same}
+use Rattle.judge.proofs.judge.Reads as judge
+use Rattle.judge.proofs.verdict_of.Reads as verdict-of
+
+-- an answer is what it says
+pub judge-alike : (r r′ : JudgeAnswer) → judgeSaid r ≡ judgeSaid r′ → r ≡ r′
+judge-alike (judged.Given a) (judged.Given b) e = cc
+judge-alike (judged.Given a) (judged.Refused k) e = cc
+judge-alike (judged.Refused j) (judged.Given b) e = cc
+judge-alike (judged.Refused j) (judged.Refused k) e = cc
+
+pub verdict-alike : (r r′ : VerdictAnswer) → verdictSaid r ≡ verdictSaid r′ → r ≡ r′
+verdict-alike (verdicts.Given a) (verdicts.Given b) e = cc
+verdict-alike (verdicts.Given a) (verdicts.Refused k) e = cc
+verdict-alike (verdicts.Refused j) (verdicts.Given b) e = cc
+verdict-alike (verdicts.Refused j) (verdicts.Refused k) e = cc
+
+pub judge-tight : Tight judgeEntry
+judge-tight =
+    tight-says Same _ _ _ judgeSaid judged.Refused (λ k. refl) judge-alike (λ plan x. judgement-one plan 0 (plan .n))
+    (λ plan x. plan-gives plan) refl (λ plan other same x. judged-same plan other same)
+
+pub judge-kept : Keeps judgeEntry (contract judge.Post)
+judge-kept = record { subject = λ a. a .0; more = λ a. tt; reply = λ r z. r; is = λ κs a r z h. h }
+
+pub verdict-tight : Tight verdictEntry
+verdict-tight =
+    tight-says Same _ _ _ verdictSaid verdicts.Refused (λ k. refl) verdict-alike (λ plan c. verdict-one _ _ _)
+    asked-gives refl verdicts-same
+
+pub verdict-kept : Keeps verdictEntry (contract verdict-of.Post)
+verdict-kept = record { subject = λ a. a .0; more = λ a. a .1 .0; reply = λ r z. r; is = λ κs a r z h. h }
