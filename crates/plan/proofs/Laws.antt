@@ -146,7 +146,17 @@ used-same plan =
       owners = λ x l. sym (get-padded (ownerOf plan) (plan .f) 64 0 x l);
     }
 
--- and there is one such plan
+-- either way round
+pub same-back : (plan other : Plan) → Same plan other → Same other plan
+same-back plan other s =
+    record {
+      frame = sym (s .frame);
+      count = sym (s .count);
+      clients = λ i l. sym (s .clients i (omega (arith, s .count)));
+      owners = λ x l. sym (s .owners x (omega (arith, s .frame)));
+    }
+
+-- and there is one plan that is 0 there
 pub same-used : (plan other : Plan) → Same plan other → used plan ≡ used other
 unfolding used
 same-used plan other s =

@@ -1,19 +1,15 @@
--- What the search refuses: 16 exactly where f or n is too large, after the requirements' own checks; each refusal has
--- its number.
+-- What the search refuses: 16 exactly where f or n is too large, after the requirements' own checks.
 -- Assumes nothing.
 use mathlib.Core.Path.{_≡_}
-use Prim.Native.Nat.{ℕ, _≤_, _<_}
-use native.Mathlib.Omega.{arith}
+use Prim.Native.Nat.{_≤_, _<_}
 use lib.Dec.{leb}
 use borrow.Author.Tests.{le-leb, lt-leb, leb-true}
 use Rattle.records.specs.Refusal as refusal
-use Rattle.records.specs.First.{unless, Numbered}
+use Rattle.records.specs.First.{unless}
 use Rattle.records.specs.declared.Outcome.the-variants as outcome
 use Rattle.records.proofs.Checks.{both-fine, unless-fine}
-use Rattle.records.proofs.Refusals.{or-each, unless-numbered}
 use Rattle.plan.specs.declared.Plan.{Plan}
 use Rattle.plan.specs.Check.{requirementsCheck}
-use Rattle.plan.proofs.Refusals.{requirements-numbered}
 use Rattle.plan.proofs.Laws.{InBounds, requirements-fine, requirements-pass}
 use Rattle.search.specs.Search.{mostSlots, mostClients, sizeCheck, searchCheck}
 
@@ -50,13 +46,3 @@ search-fine plan h =
 pub search-pass : (plan : Plan) → Searchable plan → searchCheck plan ≡ outcome.Fine
 unfolding searchCheck
 search-pass plan ok = rw (requirements-pass plan (ok .bounds)) (size-pass plan (ok .short) (ok .few))
-
--- "Each refusal has its number"
-pub search-numbered : (most : ℕ) → refusal.tooLarge ≤ most → (plan : Plan) → Numbered most (searchCheck plan)
-unfolding searchCheck sizeCheck
-search-numbered most h plan =
-    or-each (Numbered most) (requirementsCheck plan) (sizeCheck plan)
-    (requirements-numbered most (omega arith) plan)
-    (or-each (Numbered most) (unless (leb (plan .f) mostSlots) refusal.tooLarge 0) _
-    (unless-numbered most (leb (plan .f) mostSlots) refusal.tooLarge 0 (omega arith) h)
-    (unless-numbered most (leb (plan .n) mostClients) refusal.tooLarge 0 (omega arith) h))

@@ -2,3 +2,4 @@
 pub mod Search
 pub mod Mend
 pub mod Trees
+pub mod Entries

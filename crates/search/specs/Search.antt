@@ -6,9 +6,9 @@ use Prim.Native.Nat.{ℕ, _-_}
 use lib.Dec.{leb}
 use lib.ListN.{take, drop, replicate}
 use Rattle.records.specs.Refusal as refusal
-use Rattle.records.specs.First.{unless, orElse, RefusedBy}
+use Rattle.records.specs.First.{unless, orElse}
+use Rattle.records.specs.Said.{Said, given, refused, AnswersBeside}
 use Rattle.records.specs.declared.Outcome.{Outcome}
-use Rattle.records.specs.declared.Outcome.the-variants.{Fine}
 use Rattle.plan.specs.declared.Client.{Client}
 use Rattle.plan.specs.declared.Plan.{Plan}
 use Rattle.plan.specs.Plan.{withTable}
@@ -49,20 +49,18 @@ abbrev pub Finds : (List ℕ → Type 0) → (f n : ℕ) → Bool → List ℕ �
 Finds P f n true owners = IsBest P f n (take f owners) × (drop f owners ≡ replicate (64 - f) 0)
 Finds P f n false owners = NoTable P f n × (owners ≡ replicate 64 0)
 
--- what the search answers
+-- what an answer says: whether there is a table; ""None" is no refusal"
+abbrev pub searchSaid : SearchAnswer → Said Bool
+searchSaid finding.Found = given true
+searchSaid finding.None = given false
+searchSaid (finding.Refused number) = refused number
+
+-- what the search answers, with the owners beside it: a refusal has "all other results 0"
 abbrev pub SearchedAs : Plan → SearchAnswer → List ℕ → Type 0
-SearchedAs plan finding.Found owners =
-    (searchCheck plan ≡ Fine) × Finds (AcceptedIn plan) (plan .f) (plan .n) true owners
-SearchedAs plan finding.None owners =
-    (searchCheck plan ≡ Fine) × Finds (AcceptedIn plan) (plan .f) (plan .n) false owners
-SearchedAs plan (finding.Refused number) owners = RefusedBy (searchCheck plan) number × (owners ≡ replicate 64 0)
+SearchedAs plan a owners =
+    AnswersBeside (searchCheck plan) (Finds (AcceptedIn plan) (plan .f) (plan .n)) (replicate 64 0) (searchSaid a)
+    owners
 
 -- the same of an answer with its owners
 abbrev pub IsSearched : Plan → Searched → Type 0
 IsSearched plan r = SearchedAs plan (r .answer) (r .owners)
-
--- an answer's number: "A refusal .. returns its number"; ""None" is no refusal"
-abbrev pub searchedNumber : SearchAnswer → ℕ
-searchedNumber finding.Found = 0
-searchedNumber finding.None = 0
-searchedNumber (finding.Refused number) = number

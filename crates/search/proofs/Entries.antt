@@ -1,0 +1,34 @@
+-- The row of `search` holds, and is its entry's own contract.
+-- Assumes nothing.
+use mathlib.Core.Path.{refl}
+use Rattle.records.specs.Entry.{Tight, contract, Keeps}
+use Rattle.records.proofs.Said.{beside-number, beside-refused}
+use Rattle.search.specs.declared.SearchAnswer.the-variants as finding
+use Rattle.search.specs.Search.{idlePlan, searchCheck, searchSaid}
+use Rattle.search.specs.Entries.{searchEntry}
+use Rattle.search.proofs.Refusals.{search-gives}
+use Rattle.search.proofs.Once.{searched-alike, searched-once}
+use Rattle.search.proofs.Same.{searched-same}
+use Rattle.search.proofs.search.Reads as search
+
+pub search-tight : Tight searchEntry
+search-tight =
+    record {
+      once = λ plan x. searched-once plan;
+      number = λ plan x r. beside-number (searchCheck plan) _ _ (searchSaid (r .answer)) (r .owners);
+      refused = λ plan x r k offset is e.
+          let h = beside-refused (searchCheck plan) _ _ (searchSaid (r .answer)) (r .owners) is e in
+          searched-alike (r .answer) (finding.Refused k) _ _ (h .0) (h .1);
+      numbers = λ plan x. search-gives plan;
+      nonzero = refl;
+      unread = λ plan other same x. searched-same plan other same;
+    }
+
+pub search-kept : Keeps searchEntry (contract search.Post)
+search-kept =
+    record {
+      subject = λ a. idlePlan (a .0) (a .1 .0) (a .1 .1 .0);
+      more = λ a. tt;
+      reply = λ r z. r;
+      is = λ κs a r z h. h;
+    }
