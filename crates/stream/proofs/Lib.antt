@@ -5,7 +5,8 @@ pub mod Lengths
 pub mod WrittenBack
 pub mod ReadBack
 pub mod Same
-pub mod Numbers
+pub mod Refusals
 pub mod Offsets
 pub mod Answers
 pub mod Trips
+pub mod Entries

@@ -86,7 +86,8 @@ fitted plan out r now size w e =
 
 -- and is the plan's own reading
 pub reread-given : (plan : Plan) (r : WriteAnswer) (now : List ℕ) (size : ℕ) (a : Reading)
-    → planCheck plan ≡ outcome.Fine → Reread plan r now → r ≡ written.Given size → a ≡ readOf (take size now) → a ≡ rereadOf plan
+    → planCheck plan ≡ outcome.Fine → Reread plan r now → r ≡ written.Given size → a ≡ readOf (take size now)
+    → a ≡ rereadOf plan
 unfolding rereadOf
 reread-given plan r now size a ok back e h = h ∙ back size e ∙ rw ok
 

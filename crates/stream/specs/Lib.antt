@@ -3,3 +3,4 @@ pub mod Kind
 pub mod Write
 pub mod Read
 pub mod Trip
+pub mod Entries

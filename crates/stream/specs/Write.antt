@@ -6,6 +6,7 @@ use lib.Dec.{ltb, leb}
 use lib.ListN.{length, drop}
 use Rattle.records.specs.Refusal as refusal
 use Rattle.records.specs.First.{pick, unless, orElse}
+use Rattle.records.specs.Said.{Said, given, refused}
 use Rattle.records.specs.Pieces.{many, firsts}
 use Rattle.records.specs.Record.{be}
 use Rattle.records.specs.declared.Outcome.{Outcome}
@@ -82,12 +83,7 @@ pub record Wrote (plan : Plan) (out : List ℕ) (r : WriteAnswer) (now : List �
   pub answer : r ≡ writtenOf plan (length out)
   pub bytes : now ≡ bytesOf plan out
 
--- the document's number of an answer, 0 where nothing is refused
-abbrev pub writtenNumber : WriteAnswer → ℕ
-writtenNumber (written.Given size) = 0
-writtenNumber (written.Refused k) = k
-
--- its other result, the length: a refusal gives "all other results 0"
-abbrev pub writtenSize : WriteAnswer → ℕ
-writtenSize (written.Given size) = size
-writtenSize (written.Refused k) = 0
+-- what an answer says: the stream's length, or the refusal's number
+abbrev pub writeSaid : WriteAnswer → Said ℕ
+writeSaid (written.Given size) = given size
+writeSaid (written.Refused k) = refused k
