@@ -10,18 +10,20 @@ use Rattle.frame.specs.Frame.{Frame, Bounded}
 use Rattle.frame.specs.Queue.{Lawful, mostPending}
 use Rattle.frame.proofs.Queue.{one-slot-lawful, one-slot-rest}
 use Rattle.frame.proofs.Service.{served-in-wait}
-use Rattle.records.specs.Refusal as refusal
-use Rattle.records.proofs.Refusals.{numbered-fine}
+use Rattle.records.specs.Said.{saidNumber}
+use Rattle.records.proofs.Refusals.{gives-fine}
 use Rattle.records.proofs.Lists.{onto-past, padded-past, get-replicate}
 use Rattle.plan.specs.declared.Plan.{Plan}
 use Rattle.plan.specs.Plan.{ownerOf, isClient, ownOf, Same}
 use Rattle.arbiter.specs.declared.Arbiter.{Arbiter}
 use Rattle.arbiter.specs.declared.Stepped.{Stepped}
 use Rattle.arbiter.specs.Step.{ruleFor, ruleOf, countOf, arrivedOf, queueAt, turnedAt, joined, servedNow}
-use Rattle.arbiter.specs.Step.{advanced, stepOf, stepNumber, clientServed}
+use Rattle.arbiter.specs.Step.{advanced, stepOf, stepSaid, clientServed}
 use Rattle.arbiter.specs.Run.{recordAfter, totalOf, Runs, servedOf, takenOf, turnedOf, pendingOf, servedInOf}
 use Rattle.arbiter.specs.Run.{Agree}
-use Rattle.arbiter.proofs.Questions.{Steps, step-fine, step-numbered}
+use Rattle.arbiter.specs.Entries.{stepNumbers}
+use Rattle.arbiter.proofs.Questions.{Steps, step-fine}
+use Rattle.arbiter.proofs.Refusals.{step-gives}
 use Rattle.arbiter.proofs.Slots.{served-at-most, less-other, either, step-number}
 use Rattle.arbiter.proofs.Runs.{place-itself, mine, mine-length, step-served, step-left, step-turned}
 use Rattle.arbiter.proofs.Runs.{pending-run, served-in-run, steps-at, runs-on}
@@ -96,11 +98,11 @@ step-none plan arb xs i n≤ =
     (λ fine. padded-past (turnedAt plan arb xs) (plan .n) 8 0 i n≤)
 
 -- a step that is not refused has the bounds
-pub step-bounds : (plan : Plan) (arb : Arbiter) (xs : List ℕ) → stepNumber (stepOf plan arb xs .served .answer) ≡ 0
-    → Steps plan (arb .position) (length xs)
+pub step-bounds : (plan : Plan) (arb : Arbiter) (xs : List ℕ)
+    → saidNumber (stepSaid (stepOf plan arb xs .served .answer)) ≡ 0 → Steps plan (arb .position) (length xs)
 step-bounds plan arb xs none =
-    let numbered = step-numbered refusal.arrivals (omega arith) plan (arb .position) (length xs) in
-    step-fine plan _ _ (numbered-fine refusal.arrivals _ numbered (sym (step-number plan arb xs) ∙ none))
+    let gives = step-gives plan (arb .position) (length xs) in
+    step-fine plan _ _ (gives-fine stepNumbers refl _ gives (sym (step-number plan arb xs) ∙ none))
 
 -- ---- a run of steps
 

@@ -1,6 +1,7 @@
 -- The laws of `arbiter`: a file rests only on those before it.
 -- Assumes nothing.
 pub mod Questions
+pub mod Refusals
 pub mod Slots
 pub mod Runs
 pub mod Laws
@@ -8,3 +9,4 @@ pub mod Latency
 pub mod Same
 pub mod Values
 pub mod Walk
+pub mod Entries

@@ -1,23 +1,18 @@
 -- A step's checks: it passes exactly when the plan is in bounds, the position is below f and the arrivals list has n
--- entries; each refusal has its number.
+-- entries.
 -- Assumes nothing.
 use mathlib.Core.Path.{_≡_}
 use Prim.Native.Nat.{ℕ, suc, _≤_, _<_}
 use native.Mathlib.Nat.{mod-lt}
 use native.Mathlib.Omega.{arith}
-use lib.Dec.{ltb, eqb}
 use borrow.Author.Tests.{ltb-true, eqb-true, lt-ltb, eq-eqb}
 use Rattle.frame.specs.Frame.{nextOf}
 use Rattle.records.specs.Refusal as refusal
-use Rattle.records.specs.First.{orElse, Numbered}
 use Rattle.records.specs.declared.Outcome.the-variants.{Fine}
 use Rattle.records.proofs.Checks.{both-fine, unless-fine}
-use Rattle.records.proofs.Refusals.{or-each, unless-numbered}
 use Rattle.plan.specs.declared.Plan.{Plan}
 use Rattle.plan.specs.Plan.{ownerOf}
-use Rattle.plan.specs.Check.{planCheck}
 use Rattle.plan.proofs.Laws.{Checked, plan-fine, plan-pass}
-use Rattle.plan.proofs.Refusals.{plan-numbered}
 use Rattle.arbiter.specs.Step.{positionCheck, arrivalsCheck, stepCheck}
 
 -- what a step has that passes
@@ -56,15 +51,3 @@ next-passes plan position arrived h =
 pub owner-small : (plan : Plan) (position arrived : ℕ) → Steps plan position arrived → ownerOf plan position ≤ 8
 owner-small plan position arrived ok =
     omega (arith, ok .checked .owned position (ok .below), ok .checked .bounds .n-high)
-
--- "Each refusal has its number"
-pub step-numbered : (most : ℕ) → refusal.arrivals ≤ most → (plan : Plan) (position arrived : ℕ)
-    → Numbered most (stepCheck plan position arrived)
-unfolding stepCheck positionCheck arrivalsCheck
-step-numbered most h plan position arrived =
-    let below = positionCheck (plan .f) position in
-    let many = arrivalsCheck (plan .n) arrived in
-    or-each (Numbered most) (planCheck plan) (orElse below many) (plan-numbered most (omega arith) plan)
-    (or-each (Numbered most) below many
-    (unless-numbered most (ltb position (plan .f)) refusal.position 0 (omega arith) (omega arith))
-    (unless-numbered most (eqb arrived (plan .n)) refusal.arrivals 0 (omega arith) h))

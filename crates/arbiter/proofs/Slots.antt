@@ -14,6 +14,7 @@ use borrow.Author.Tests.{lt-ltb, le-ltb}
 use Rattle.frame.specs.Frame.{nextOf}
 use Rattle.frame.specs.Queue.{serve}
 use Rattle.records.specs.First.{pick, numberOf}
+use Rattle.records.specs.Said.{saidNumber}
 use Rattle.records.specs.declared.Outcome.{Outcome}
 use Rattle.records.specs.declared.Outcome.the-variants as outcome
 use Rattle.records.specs.Pieces.{onto, padded}
@@ -24,7 +25,7 @@ use Rattle.arbiter.specs.declared.Arbiter.{Arbiter}
 use Rattle.arbiter.specs.declared.StepAnswer.the-variants.{Given}
 use Rattle.arbiter.specs.declared.Stepped.{Stepped}
 use Rattle.arbiter.specs.Step.{servedBy, lessOne, turnedAt, joined, servedNow, advanced, stepCheck}
-use Rattle.arbiter.specs.Step.{refusedStep, steppedBy, stepOf, stepNumber, clientServed}
+use Rattle.arbiter.specs.Step.{refusedStep, steppedBy, stepOf, stepSaid, clientServed}
 
 -- ---- the client served
 
@@ -144,14 +145,14 @@ pub step-advances : (plan : Plan) (arb : Arbiter) (xs : List ℕ)
 unfolding stepOf
 step-advances plan arb xs h = rw h
 
-number-by : (o : Outcome) (goes : Stepped) (arb : Arbiter) → stepNumber (goes .served .answer) ≡ 0
-    → stepNumber (steppedBy o goes arb .served .answer) ≡ numberOf o
+number-by : (o : Outcome) (goes : Stepped) (arb : Arbiter) → saidNumber (stepSaid (goes .served .answer)) ≡ 0
+    → saidNumber (stepSaid (steppedBy o goes arb .served .answer)) ≡ numberOf o
 number-by outcome.Fine goes arb h = h
 number-by (outcome.Refused number offset) goes arb h = refl
 
 -- its number is the first refusal's
 pub step-number : (plan : Plan) (arb : Arbiter) (xs : List ℕ)
-    → stepNumber (stepOf plan arb xs .served .answer) ≡ numberOf (stepCheck plan (arb .position) (length xs))
+    → saidNumber (stepSaid (stepOf plan arb xs .served .answer)) ≡ numberOf (stepCheck plan (arb .position) (length xs))
 unfolding stepOf advanced
 step-number plan arb xs = number-by (stepCheck plan (arb .position) (length xs)) (advanced plan arb xs) arb refl
 

@@ -7,6 +7,7 @@ use Rattle.frame.specs.Frame.{nextOf}
 use Rattle.frame.specs.Queue.{Rule, oneSlot, queue}
 use Rattle.records.specs.Refusal as refusal
 use Rattle.records.specs.First.{pick, unless, orElse}
+use Rattle.records.specs.Said.{Said, given, refused, saidOr}
 use Rattle.records.specs.Pieces.{onto, padded}
 use Rattle.records.specs.declared.Outcome.{Outcome}
 use Rattle.records.specs.declared.Outcome.the-variants as outcome
@@ -104,12 +105,11 @@ stepOf plan arb xs = steppedBy (stepCheck plan (arb .position) (length xs)) (adv
 
 -- ---- the answer's cases
 
--- an answer's number, 0 where nothing is refused
-abbrev pub stepNumber : StepAnswer → ℕ
-stepNumber (answer.Given client) = 0
-stepNumber (answer.Refused number) = number
+-- what a step says: the client served, or 0; or the refusal's number
+abbrev pub stepSaid : StepAnswer → Said ℕ
+stepSaid (answer.Given client) = given client
+stepSaid (answer.Refused number) = refused number
 
 -- "The result names the client served, or 0", as a refusal does
 abbrev pub clientServed : StepAnswer → ℕ
-clientServed (answer.Given client) = client
-clientServed (answer.Refused number) = 0
+clientServed answer = saidOr 0 (stepSaid answer)

@@ -1,6 +1,6 @@
 // A step's checks, and the step that is not refused, part by part.
-use super::Served;
 use super::Arbiter;
+use super::Served;
 use super::StepAnswer;
 use super::Stepped;
 use frame::inner::next;

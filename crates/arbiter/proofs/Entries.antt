@@ -1,0 +1,67 @@
+-- The rows of `arbiter` hold, and are their entries' own contracts.
+-- Assumes nothing.
+use mathlib.Core.Path.{_≡_, refl, ap, _∙_}
+use lib.ListN.{length}
+use base.Logic.{emp}
+use package.contract.Lifetimes.{Lfts}
+use denote.Triple.Entry.{Args}
+use denote.Triple.Clauses.{AtExit}
+use borrow.Fn.Claims.{AllOf}
+use borrow.Fn.World.{w₀}
+use borrow.Fn.Read.{ReadAt, no-know, r-last}
+use Rattle.records.specs.Said.{saidNumber}
+use Rattle.records.specs.Entry.{Tight, contract, Keeps}
+use Rattle.records.proofs.Entry.{both, tight-fixed}
+use Rattle.arbiter.specs.declared.Served.{Served}
+use Rattle.arbiter.specs.declared.Stepped.{Stepped}
+use Rattle.arbiter.specs.Step.{stepOf, stepSaid}
+use Rattle.arbiter.specs.Entries.{steps, stepEntry, inPlaceEntry}
+use Rattle.arbiter.proofs.Refusals.{step-gives}
+use Rattle.arbiter.proofs.Slots.{step-refused, step-number}
+use Rattle.arbiter.proofs.Same.{same-step}
+use Rattle.arbiter.proofs.step.Reads as step
+use Rattle.arbiter.proofs.step_lending.Reads as step-lending
+use Rattle.arbiter.proofs.step_in_place as step-in-place
+
+tight-steps : {R : Type 0} (back : Stepped → R) (served : R → Served) → ((s : Stepped) → served (back s) ≡ s .served)
+    → Tight (steps back served)
+tight-steps back served right =
+    tight-fixed (steps back served) (λ plan more. back (stepOf plan (more .0) (more .1))) (λ plan more r is. is)
+    (λ plan more. ap (λ (x : Served). saidNumber (stepSaid (x .answer))) (right _)
+    ∙ step-number plan (more .0) (more .1))
+    (λ plan more k offset stops. ap back (step-refused plan (more .0) (more .1) stops))
+    (λ plan more. step-gives plan (more .0 .position) (length (more .1))) refl
+    (λ plan other same more r is. is ∙ ap back (same-step plan other same (more .0) (more .1)))
+
+pub step-tight : Tight stepEntry
+step-tight = tight-steps (λ s. s) (λ r. r .served) (λ s. refl)
+
+pub step-kept : Keeps stepEntry (contract step.Post)
+step-kept =
+    record { subject = λ a. a .0; more = λ a. (a .1 .0, a .1 .1 .0 .now); reply = λ r z. r; is = λ κs a r z h. h }
+
+pub lending-kept : Keeps stepEntry (contract step-lending.Post)
+lending-kept =
+    record { subject = λ a. a .0; more = λ a. (a .1 .0, a .1 .1 .0 .now); reply = λ r z. r; is = λ κs a r z h. h }
+
+pub in-place-tight : Tight inPlaceEntry
+in-place-tight = tight-steps (λ s. (s .served, s .next)) (λ r. r .0) (λ s. refl)
+
+-- for a function that is lent a struct the kit makes no `Post`: here is what its words in lib.rt tell, by the kit's own
+-- reading of a plain fact
+module _ (κs : Lfts 2) (a : Args step-in-place.signature κs) (r : Served) (z : AtExit step-in-place.ended κs) where
+  abbrev in-place-read : ReadAt w₀ (λ w. emp (w .𝓤)) no-know
+      (step-in-place.clauses (w₀ .𝓤) (w₀ .H) (w₀ .𝓖 .A) (w₀ .𝓜 .mem) (w₀ .𝓡 .run) κs a .ensures tt r z)
+  in-place-read = r-last _
+
+  abbrev pub InPlacePost : Type 0
+  InPlacePost = AllOf (in-place-read .tells)
+
+pub in-place-kept : Keeps inPlaceEntry (contract InPlacePost)
+in-place-kept =
+    record {
+      subject = λ a. a .0;
+      more = λ a. (a .1 .0 .now, a .1 .1 .0 .now);
+      reply = λ r z. (r, z .1 .0 .now);
+      is = λ κs a r z h. both (h .0) (h .1);
+    }
