@@ -5,13 +5,13 @@ use lib.ListN.{length}
 use base.Logic.{emp}
 use package.contract.Lifetimes.{Lfts}
 use denote.Triple.Entry.{Args}
-use denote.Triple.Clauses.{AtExit}
+use denote.Triple.Clauses.{ClausesAt, AtExit}
 use borrow.Fn.Claims.{AllOf}
 use borrow.Fn.World.{w₀}
-use borrow.Fn.Read.{ReadAt, no-know, r-last}
+use borrow.Fn.Read.{ReadAt, no-know, r-top, r-last}
 use Rattle.records.specs.Said.{saidNumber}
-use Rattle.records.specs.Entry.{Tight, contract, Keeps}
-use Rattle.records.proofs.Entry.{both, tight-fixed}
+use Rattle.records.specs.Entry.{Tight, contract, Tied}
+use Rattle.records.proofs.Entry.{both, tight-fixed, tied}
 use Rattle.arbiter.specs.declared.Served.{Served}
 use Rattle.arbiter.specs.declared.Stepped.{Stepped}
 use Rattle.arbiter.specs.Step.{stepOf, stepSaid}
@@ -36,32 +36,40 @@ tight-steps back served right =
 pub step-tight : Tight stepEntry
 step-tight = tight-steps (λ s. s) (λ r. r .served) (λ s. refl)
 
-pub step-kept : Keeps stepEntry (contract step.Post)
-step-kept =
-    record { subject = λ a. a .0; more = λ a. (a .1 .0, a .1 .1 .0 .now); reply = λ r z. r; is = λ κs a r z h. h }
+pub step-tied : Tied stepEntry (contract step.Pre step.Post)
+step-tied = tied (λ a. a .0) (λ a. (a .1 .0, a .1 .1 .0 .now)) (λ κs a. tt) (λ κs a r z h. h)
 
-pub lending-kept : Keeps stepEntry (contract step-lending.Post)
-lending-kept =
-    record { subject = λ a. a .0; more = λ a. (a .1 .0, a .1 .1 .0 .now); reply = λ r z. r; is = λ κs a r z h. h }
+pub lending-tied : Tied stepEntry (contract step-lending.Pre step-lending.Post)
+lending-tied = tied (λ a. a .0) (λ a. (a .1 .0, a .1 .1 .0 .now)) (λ κs a. tt) (λ κs a r z h. h)
 
 pub in-place-tight : Tight inPlaceEntry
 in-place-tight = tight-steps (λ s. (s .served, s .next)) (λ r. r .0) (λ s. refl)
 
--- for a function that is lent a struct the kit makes no `Post`: here is what its words in lib.rt tell, by the kit's own
--- reading of a plain fact
-module _ (κs : Lfts 2) (a : Args step-in-place.signature κs) (r : Served) (z : AtExit step-in-place.ended κs) where
-  abbrev in-place-read : ReadAt w₀ (λ w. emp (w .𝓤)) no-know
-      (step-in-place.clauses (w₀ .𝓤) (w₀ .H) (w₀ .𝓖 .A) (w₀ .𝓜 .mem) (w₀ .𝓡 .run) κs a .ensures tt r z)
-  in-place-read = r-last _
+-- for a function that is lent a struct the kit makes no `Pre` and no `Post`: here is what its words in lib.rt ask and
+-- tell, by the kit's own reading of no clause and of a plain fact
+module _ (κs : Lfts 2) (a : Args step-in-place.signature κs) where
+  abbrev clauses : ClausesAt (w₀ .𝓤) step-in-place.ended κs
+  clauses = step-in-place.clauses (w₀ .𝓤) (w₀ .H) (w₀ .𝓖 .A) (w₀ .𝓜 .mem) (w₀ .𝓡 .run) κs a
 
-  abbrev pub InPlacePost : Type 0
-  InPlacePost = AllOf (in-place-read .tells)
+  abbrev asked : ReadAt w₀ (λ w. emp (w .𝓤)) no-know (clauses .requires tt)
+  asked = r-top
 
-pub in-place-kept : Keeps inPlaceEntry (contract InPlacePost)
-in-place-kept =
+  abbrev pub InPlacePre : Type 0
+  InPlacePre = AllOf (asked .owes)
+
+  module _ (r : Served) (z : AtExit step-in-place.ended κs) where
+    abbrev told : ReadAt w₀ (λ w. emp (w .𝓤)) no-know (clauses .ensures tt r z)
+    told = r-last _
+
+    abbrev pub InPlacePost : Type 0
+    InPlacePost = AllOf (told .tells)
+
+pub in-place-tied : Tied inPlaceEntry (contract InPlacePre InPlacePost)
+in-place-tied =
     record {
       subject = λ a. a .0;
       more = λ a. (a .1 .0 .now, a .1 .1 .0 .now);
       reply = λ r z. (r, z .1 .0 .now);
+      asks = λ κs a. tt;
       is = λ κs a r z h. both (h .0) (h .1);
     }

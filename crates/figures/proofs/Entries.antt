@@ -3,9 +3,9 @@
 use mathlib.Core.Path.{_≡_, refl, ap, _∙_}
 use Prim.Native.Nat.{ℕ}
 use Rattle.records.specs.First.{numberOf}
-use Rattle.records.specs.Entry.{Tight, contract, Keeps}
+use Rattle.records.specs.Entry.{Tight, contract, Tied}
 use Rattle.records.proofs.Said.{answers-once, answers-number, answers-refused}
-use Rattle.records.proofs.Entry.{tight-says}
+use Rattle.records.proofs.Entry.{tight-says, tied}
 use Rattle.plan.specs.Plan.{Same, defaultWaiting}
 use Rattle.figures.specs.declared.FigureAnswer.{FigureAnswer}
 use Rattle.figures.specs.declared.FigureAnswer.the-variants as figures
@@ -39,17 +39,16 @@ figure-tight =
     tight-says Same _ figureCheck _ figureSaid figures.Refused (λ k. refl) figure-alike (λ plan c. figure-one)
     figure-gives refl figures-same
 
-pub figure-kept : Keeps figureEntry (contract figure-of.Post)
-figure-kept = record { subject = λ a. a .0; more = λ a. a .1 .0; reply = λ r z. r; is = λ κs a r z h. h }
+pub figure-tied : Tied figureEntry (contract figure-of.Pre figure-of.Post)
+figure-tied = tied (λ a. a .0) (λ a. a .1 .0) (λ κs a. tt) (λ κs a r z h. h)
 
 pub wait-tight : Tight waitEntry
 wait-tight =
     tight-says Same _ _ _ waitSaid wait.Refused (λ k. refl) wait-alike (λ plan x. waits-one)
     (λ plan x. wait-gives plan (x .0) (x .1)) refl (λ plan other same x. waits-same plan other same (x .0) (x .1))
 
-pub wait-kept : Keeps waitEntry (contract wait-for.Post)
-wait-kept =
-    record { subject = λ a. a .0; more = λ a. (a .1 .0, a .1 .1 .0); reply = λ r z. r; is = λ κs a r z h. h }
+pub wait-tied : Tied waitEntry (contract wait-for.Pre wait-for.Post)
+wait-tied = tied (λ a. a .0) (λ a. (a .1 .0, a .1 .1 .0)) (λ κs a. tt) (λ κs a r z h. h)
 
 pub default-tight : Tight defaultEntry
 default-tight =
@@ -63,5 +62,5 @@ default-tight =
       unread = λ plan other same c. waits-same plan other same c defaultWaiting;
     }
 
-pub default-kept : Keeps defaultEntry (contract default-wait.Post)
-default-kept = record { subject = λ a. a .0; more = λ a. a .1 .0; reply = λ r z. r; is = λ κs a r z h. h }
+pub default-tied : Tied defaultEntry (contract default-wait.Pre default-wait.Post)
+default-tied = tied (λ a. a .0) (λ a. a .1 .0) (λ κs a. tt) (λ κs a r z h. h)

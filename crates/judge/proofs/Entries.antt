@@ -1,8 +1,8 @@
 -- The rows of `judge` hold, and are their entries' own contracts.
 -- Assumes nothing.
 use mathlib.Core.Path.{_≡_, refl}
-use Rattle.records.specs.Entry.{Tight, contract, Keeps}
-use Rattle.records.proofs.Entry.{tight-says}
+use Rattle.records.specs.Entry.{Tight, contract, Tied}
+use Rattle.records.proofs.Entry.{tight-says, tied}
 use Rattle.plan.specs.Plan.{Same}
 use Rattle.plan.proofs.Refusals.{plan-gives, asked-gives}
 use Rattle.judge.specs.declared.JudgeAnswer.{JudgeAnswer}
@@ -34,13 +34,13 @@ judge-tight =
     tight-says Same _ _ _ judgeSaid judged.Refused (λ k. refl) judge-alike (λ plan x. judgement-one plan 0 (plan .n))
     (λ plan x. plan-gives plan) refl (λ plan other same x. judged-same plan other same)
 
-pub judge-kept : Keeps judgeEntry (contract judge.Post)
-judge-kept = record { subject = λ a. a .0; more = λ a. tt; reply = λ r z. r; is = λ κs a r z h. h }
+pub judge-tied : Tied judgeEntry (contract judge.Pre judge.Post)
+judge-tied = tied (λ a. a .0) (λ a. tt) (λ κs a. tt) (λ κs a r z h. h)
 
 pub verdict-tight : Tight verdictEntry
 verdict-tight =
     tight-says Same _ _ _ verdictSaid verdicts.Refused (λ k. refl) verdict-alike (λ plan c. verdict-one _ _ _)
     asked-gives refl verdicts-same
 
-pub verdict-kept : Keeps verdictEntry (contract verdict-of.Post)
-verdict-kept = record { subject = λ a. a .0; more = λ a. a .1 .0; reply = λ r z. r; is = λ κs a r z h. h }
+pub verdict-tied : Tied verdictEntry (contract verdict-of.Pre verdict-of.Post)
+verdict-tied = tied (λ a. a .0) (λ a. a .1 .0) (λ κs a. tt) (λ κs a r z h. h)

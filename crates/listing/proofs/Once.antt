@@ -12,12 +12,13 @@ use Rattle.text.proofs.Laws.{lines-once}
 use Rattle.stream.specs.Read.{readOf}
 use Rattle.figures.specs.declared.FigureAnswer.{FigureAnswer}
 use Rattle.figures.specs.declared.WaitAnswer.{WaitAnswer}
-use Rattle.figures.proofs.Once.{figures-once, waits-once}
+use Rattle.figures.proofs.Entries.{figure-tight, wait-tight}
+use Rattle.judge.specs.declared.Judgement.{Judgement}
 use Rattle.judge.specs.declared.Verdict.{Verdict}
 use Rattle.judge.proofs.Once.{verdict-one, judgement-one}
 use Rattle.listing.specs.declared.Line.{Line}
-use Rattle.listing.specs.Listing.{lineText, homingWaiting, homingLine, IsLine, IsReportLine, IsClosing}
-use Rattle.listing.specs.Listing.{IsReportOf, IsHomingLine, IsHomingOf, OrRefusal, IsReport, IsHoming}
+use Rattle.listing.specs.Listing.{lineText, closingText, homingWaiting, homingLine, IsLine, IsReportLine}
+use Rattle.listing.specs.Listing.{IsClosing, IsReportOf, IsHomingLine, IsHomingOf, OrRefusal, IsReport, IsHoming}
 
 line-alike : (c c′ : ℕ) (g g′ : FigureAnswer) (w w′ : WaitAnswer) (v v′ : Verdict) → c ≡ c′ → g ≡ g′
     → w ≡ w′ → v ≡ v′ → _≡_ {A = Line} (record { client = c; figures = g; wait = w; verdict = v })
@@ -29,8 +30,8 @@ module _ (plan : Plan) where
   line-once c a b is is′ =
       line-alike _ _ _ _ _ _ _ _
       (is .client ∙ sym (is′ .client))
-      (figures-once plan c (a .figures) (b .figures) (is .figures) (is′ .figures))
-      (waits-once plan c defaultWaiting (a .wait) (b .wait) (is .wait) (is′ .wait))
+      (figure-tight .once plan c (a .figures) (b .figures) (is .figures) (is′ .figures))
+      (wait-tight .once plan (c, defaultWaiting) (a .wait) (b .wait) (is .wait) (is′ .wait))
       (verdict-one _ _ _ (a .verdict) (b .verdict) (is .verdict .1) (is′ .verdict .1))
 
   report-line-once : (i : ℕ) (a b : List ℕ) → IsReportLine plan i a → IsReportLine plan i b → a ≡ b
@@ -39,10 +40,8 @@ module _ (plan : Plan) where
 
   closing-once : (a b : List ℕ) → IsClosing plan a → IsClosing plan b → a ≡ b
   closing-once a b is is′ =
-      let v = is .found .verdict in
-      let v′ = is′ .found .verdict in
-      let same = judgement-one plan 0 (plan .n) v v′ _ _ _ _ _ _ (is .is .1) (is′ .is .1) in
-      is .whole ∙ rw (same .1, same .0) (sym (is′ .whole))
+      let same = judgement-one plan 0 (plan .n) (is .found) (is′ .found) (is .is .1) (is′ .is .1) in
+      is .whole ∙ ap (λ (x : Judgement). closingText (x .client) (x .verdict)) same ∙ sym (is′ .whole)
 
   report-of-once : (a b : List ℕ) → IsReportOf plan a → IsReportOf plan b → a ≡ b
   report-of-once a b is is′ =
@@ -53,7 +52,7 @@ module _ (plan : Plan) where
 
   homing-line-once : (i : ℕ) (a b : List ℕ) → IsHomingLine plan i a → IsHomingLine plan i b → a ≡ b
   homing-line-once i a b is is′ =
-      let same = waits-once plan (i + 1) homingWaiting (is .wait) (is′ .wait) (is .is) (is′ .is) in
+      let same = wait-tight .once plan (i + 1, homingWaiting) (is .wait) (is′ .wait) (is .is) (is′ .is) in
       is .whole ∙ ap (homingLine (i + 1)) same ∙ sym (is′ .whole)
 
   homing-of-once : (a b : List ℕ) → IsHomingOf plan a → IsHomingOf plan b → a ≡ b

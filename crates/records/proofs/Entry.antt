@@ -7,7 +7,7 @@ use mathlib.Core.List.{List}
 use Prim.Native.Nat.{ℕ}
 use Rattle.records.specs.First.{numberOf, offsetOf, among, Gives}
 use Rattle.records.specs.Said.{Said, refused, Answers}
-use Rattle.records.specs.Entry.{Entry, Tight, says, finds, always}
+use Rattle.records.specs.Entry.{Entry, Tight, contract, Tied, says, finds, always}
 use Rattle.records.specs.declared.Outcome.{Outcome}
 use Rattle.records.specs.declared.Outcome.the-variants.{Fine, Refused}
 use Rattle.records.proofs.Checks.{not-fine}
@@ -87,3 +87,10 @@ tight-always Is one =
       nonzero = refl;
       unread = λ u u′ e x r is. subst (λ v. Is v x r) e is;
     }
+
+-- a tie where nothing is lent that changes, so that the result is the reply, and where the row has the contract's words
+pub tied : {e : Entry} {K A L : Type 0} {Pre : K → A → Type 0} {Post : K → A → e .Reply → L → Type 0}
+    (subject : A → e .Subject) (more : A → e .More) → ((κs : K) (a : A) → Pre κs a)
+    → ((κs : K) (a : A) (r : e .Reply) (z : L) → Post κs a r z → e .Is (subject a) (more a) r)
+    → Tied e (contract Pre Post)
+tied subject more asks is = record { subject = subject; more = more; reply = λ r z. r; asks = asks; is = is }

@@ -49,23 +49,26 @@ Shown e = (l : List (e .Subject × e .More)) × (map (λ i. numberOf (e .check (
 
 -- ---- what ties a row to its entry
 
--- a function's contract, as the kit makes it of the words in lib.rt: it is said of lifetimes, of the arguments, of the
--- result, and of the arguments at the end of the call
+-- a function's contract, as the kit makes it of the words in lib.rt: what it asks of a call's lifetimes and arguments,
+-- and what it says of these, of the result and of the arguments at the end of the call
 pub record Contract : Type 1 where
   pub Lifetimes : Type 0
   pub Arguments : Type 0
   pub Result : Type 0
   pub Last : Type 0
+  pub Pre : Lifetimes → Arguments → Type 0
   pub Post : Lifetimes → Arguments → Result → Last → Type 0
 
-abbrev pub contract : {K A R L : Type 0} → (K → A → R → L → Type 0) → Contract
-contract {K} {A} {R} {L} Post = record { Lifetimes = K; Arguments = A; Result = R; Last = L; Post = Post }
+abbrev pub contract : {K A R L : Type 0} → (K → A → Type 0) → (K → A → R → L → Type 0) → Contract
+contract {K} {A} {R} {L} Pre Post =
+    record { Lifetimes = K; Arguments = A; Result = R; Last = L; Pre = Pre; Post = Post }
 
--- a call that the contract allows is one that the row allows
-pub record Keeps (e : Entry) (c : Contract) : Type 0 where
+-- nothing is asked of a call, and what the contract says of it the row says
+pub record Tied (e : Entry) (c : Contract) : Type 0 where
   pub subject : c .Arguments → e .Subject
   pub more : c .Arguments → e .More
   pub reply : c .Result → c .Last → e .Reply
+  pub asks : (κs : c .Lifetimes) (a : c .Arguments) → c .Pre κs a
   pub is : (κs : c .Lifetimes) (a : c .Arguments) (r : c .Result) (z : c .Last) → c .Post κs a r z
       → e .Is (subject a) (more a) (reply r z)
 

@@ -1,7 +1,7 @@
 -- The row of `search` holds, and is its entry's own contract.
 -- Assumes nothing.
 use mathlib.Core.Path.{refl}
-use Rattle.records.specs.Entry.{Tight, contract, Keeps}
+use Rattle.records.specs.Entry.{Tight, contract, Tied}
 use Rattle.records.proofs.Said.{beside-number, beside-refused}
 use Rattle.search.specs.declared.SearchAnswer.the-variants as finding
 use Rattle.search.specs.Search.{idlePlan, searchCheck, searchSaid}
@@ -24,11 +24,5 @@ search-tight =
       unread = λ plan other same x. searched-same plan other same;
     }
 
-pub search-kept : Keeps searchEntry (contract search.Post)
-search-kept =
-    record {
-      subject = λ a. idlePlan (a .0) (a .1 .0) (a .1 .1 .0);
-      more = λ a. tt;
-      reply = λ r z. r;
-      is = λ κs a r z h. h;
-    }
+pub search-tied : Tied searchEntry (contract search.Pre search.Post)
+search-tied = tied (λ a. idlePlan (a .0) (a .1 .0) (a .1 .1 .0)) (λ a. tt) (λ κs a. tt) (λ κs a r z h. h)

@@ -7,10 +7,10 @@ use Prim.Native.Nat.{ℕ}
 use lib.ListN.{length}
 use Rattle.records.specs.First.{numberOf, among, Gives}
 use Rattle.records.specs.Said.{saidNumber}
-use Rattle.records.specs.Entry.{Tight, contract, Keeps}
+use Rattle.records.specs.Entry.{Tight, contract, Tied}
 use Rattle.records.specs.declared.Outcome.{Outcome}
 use Rattle.records.specs.declared.Outcome.the-variants as outcome
-use Rattle.records.proofs.Entry.{both, offset-none, tight-fixed}
+use Rattle.records.proofs.Entry.{both, offset-none, tight-fixed, tied}
 use Rattle.plan.specs.Plan.{Same}
 use Rattle.plan.specs.Check.{planCheck}
 use Rattle.plan.proofs.Refusals.{plan-gives, plan-unread}
@@ -55,8 +55,8 @@ read-tight =
     (λ s more k offset e. rw e) (λ s more. read-gives s) refl
     (λ s t e more r. subst (λ v. (r ≡ readOf v) × Rewritten v r) e)
 
-pub read-kept : Keeps readEntry (contract read.Post)
-read-kept = record { subject = λ a. a .0 .now; more = λ a. tt; reply = λ r z. r; is = λ κs a r z h. h }
+pub read-tied : Tied readEntry (contract read.Pre read.Post)
+read-tied = tied (λ a. a .0 .now) (λ a. tt) (λ κs a. tt) (λ κs a r z h. h)
 
 pub write-tight : Tight writeEntry
 unfolding writtenOf bytesOf
@@ -66,12 +66,13 @@ write-tight =
     (λ plan other same out r is.
     (same-wrote plan other same (is .0), same-reread plan other same (r .0) (r .1) (is .1)))
 
-pub write-kept : Keeps writeEntry (contract write.Post)
-write-kept =
+pub write-tied : Tied writeEntry (contract write.Pre write.Post)
+write-tied =
     record {
       subject = λ a. a .0;
       more = λ a. a .1 .0 .now;
       reply = λ r z. (r, z .1 .0 .now);
+      asks = λ κs a. tt;
       is = λ κs a r z h. h;
     }
 
@@ -80,12 +81,13 @@ rewritten-tight =
     tight-writes (λ s t. s ≡ t) Copied copyCheck copyNumbers (λ s. s) (λ s out r is. both (is .answer) (is .bytes))
     copy-gives refl (λ s t e out r. subst (λ v. Copied v out (r .0) (r .1)) e)
 
-pub rewritten-kept : Keeps rewrittenEntry (contract rewritten.Post)
-rewritten-kept =
+pub rewritten-tied : Tied rewrittenEntry (contract rewritten.Pre rewritten.Post)
+rewritten-tied =
     record {
       subject = λ a. a .0 .now;
       more = λ a. a .1 .0 .now;
       reply = λ r z. (r, z .1 .0 .now);
+      asks = λ κs a. tt;
       is = λ κs a r z h. h;
     }
 
@@ -96,5 +98,5 @@ reread-tight =
     (λ plan more k offset e. rw (offset-none (planCheck plan) (plan-unread plan) e)) (λ plan more. plan-gives plan) refl
     (λ plan other same more r is. is ∙ same-rereading plan other same)
 
-pub reread-kept : Keeps rereadEntry (contract reread.Post)
-reread-kept = record { subject = λ a. a .0; more = λ a. tt; reply = λ r z. r; is = λ κs a r z h. h }
+pub reread-tied : Tied rereadEntry (contract reread.Pre reread.Post)
+reread-tied = tied (λ a. a .0) (λ a. tt) (λ κs a. tt) (λ κs a r z h. h)

@@ -3,7 +3,7 @@
 use mathlib.Core.Path.{_≡_, sym, _∙_}
 use mathlib.Core.List.{List}
 use Prim.Native.Nat.{ℕ}
-use Rattle.records.specs.Entry.{Tight, contract, Keeps}
+use Rattle.records.specs.Entry.{Tight, contract, Tied}
 use Rattle.records.proofs.Entry.{both, tight-always}
 use Rattle.text.specs.Entries.{puts, putRefusalEntry}
 use Rattle.text.proofs.Laws.{puts-once}
@@ -21,11 +21,12 @@ put-refusal-tight =
     tight-always _ (λ what out r r′ is is′.
     both (is .0 .place ∙ sym (is′ .0 .place)) (is .0 .stored ∙ sym (is′ .0 .stored)))
 
-pub put-refusal-kept : Keeps putRefusalEntry (contract put-refusal.Post)
-put-refusal-kept =
+pub put-refusal-tied : Tied putRefusalEntry (contract put-refusal.Pre put-refusal.Post)
+put-refusal-tied =
     record {
       subject = λ a. (a .1 .0, a .1 .1 .0);
       more = λ a. a .0 .now;
       reply = λ r z. (r, z .0 .now);
+      asks = λ κs a. tt;
       is = λ κs a r z h. h;
     }
