@@ -2,7 +2,7 @@
 -- is within the required one; the verdicts agree with the figures and with one another; the search gives an accepted
 -- table with the fewest owned slots, and says there is none exactly when none exists.
 -- Assumes nothing.
-use mathlib.Core.Path.{_≡_, refl, sym, _∙_}
+use mathlib.Core.Path.{_≡_, refl, sym, ap, _∙_}
 use mathlib.Core.Bool.{true, false}
 use mathlib.Core.List.{List}
 use mathlib.Core.Logic.{_↔_}
@@ -26,7 +26,6 @@ use Rattle.figures.specs.declared.Figure.{Figure}
 use Rattle.figures.specs.declared.FigureAnswer.the-variants as figures
 use Rattle.figures.specs.Figures.{IsFigures}
 use Rattle.figures.proofs.Laws.{frame-of}
-use Rattle.figures.proofs.Answers.{given-fine}
 use Rattle.judge.specs.declared.JudgeAnswer.{JudgeAnswer}
 use Rattle.judge.specs.declared.JudgeAnswer.the-variants as judged
 use Rattle.judge.specs.declared.Judgement.{Judgement}
@@ -37,7 +36,8 @@ use Rattle.judge.specs.Rules.{enough, hasRate, IsLate, IsVerdict}
 use Rattle.judge.specs.Judge.{ClientOk, Accepted, JudgedAs, IsJudged, acceptance, IsVerdictOf}
 use Rattle.judge.proofs.Laws.{rate-true, rate-pass, rate-owns, late-start, late-length, in-time-by-scaled}
 use Rattle.judge.proofs.Laws.{scaled-by-in-time}
-use Rattle.judge.proofs.Once.{judgement-one, judged-once}
+use Rattle.judge.proofs.Once.{judgement-one}
+use Rattle.judge.proofs.Entries.{judge-tight}
 use Rattle.explore.specs.Best.{Table, owned, LexLe, NoTable}
 use Rattle.search.specs.declared.SearchAnswer.{SearchAnswer}
 use Rattle.search.specs.declared.SearchAnswer.the-variants as finding
@@ -127,7 +127,7 @@ judge-accepts plan found is = (by (found .verdict) (is .1), back)
 
     back : Accepted plan → found .verdict ≡ Ok
     back accepted =
-        judgement-one plan 0 (plan .n) (found .verdict) Ok _ _ _ _ _ _ (is .1) (accepted, refl, refl, refl) .0
+        ap (λ j. j .verdict) (judgement-one plan 0 (plan .n) found acceptance (is .1) (accepted, refl, refl, refl))
 
 -- ---- what is named
 
@@ -211,8 +211,7 @@ module _ (plan : Plan) (c : ℕ) where
       → verdict ≡ verdictBy (clientOf plan (c - 1)) (plan .f) (figure .slots) (figure .scaled)
   unfolding x m
   verdict-figures verdict figure is given =
-      let right = given .figure (given-fine plan c figure given) in
-      rw (right .slots) (verdict-by-scaled (figure .scaled) (right .scaled) verdict (is .1))
+      rw (given .1 .slots) (verdict-by-scaled (figure .scaled) (given .1 .scaled) verdict (is .1))
 
   -- a client without slots, who has no figures, has the verdict `rate`
   pub no-slots-rate : (verdict : Verdict) → IsVerdictOf plan c (verdicts.Given verdict)
@@ -270,7 +269,7 @@ module _ (f n : ℕ) (clients : List Client) (r : Searched) (is : IsSearched (id
   unfolding foundPlan
   found-judged e j judges =
       let fine = plan-pass foundPlan (found-checked e) in
-      judged-once foundPlan j (judged.Given acceptance) judges (fine, (found-accepted e, refl, refl, refl))
+      judge-tight .once foundPlan tt j (judged.Given acceptance) judges (fine, (found-accepted e, refl, refl, refl))
 
   -- "with the fewest owned slots", and "among those the least": of all tables that `judge` accepts
   pub found-best : r .answer ≡ finding.Found → (u : List ℕ) → Table f n u

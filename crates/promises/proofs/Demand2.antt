@@ -12,37 +12,38 @@ use Rattle.frame.specs.Frame.{Consecutive}
 use Rattle.frame.proofs.Limits.{scaled-least, scaled-most, scaled-small, scaled-consecutive, wait-small}
 use Rattle.records.specs.First.{numberOf}
 use Rattle.records.specs.declared.Outcome.the-variants.{Fine}
-use Rattle.records.proofs.Refusals.{numbered-fine}
+use Rattle.records.proofs.Refusals.{gives-fine}
 use Rattle.records.proofs.Words.{Bytes}
 use Rattle.plan.specs.declared.Plan.{Plan}
 use Rattle.plan.specs.Plan.{ownOf, Same, used}
 use Rattle.plan.specs.Check.{planCheck}
 use Rattle.plan.proofs.Laws.{plan-pass, used-same, same-used, same-check}
+use Rattle.plan.proofs.Refusals.{plan-gives}
 use Rattle.stream.specs.Kind.{rowsOf}
-use Rattle.stream.specs.Read.{readCheck, readOf}
+use Rattle.stream.specs.Read.{readOf}
 use Rattle.stream.specs.Trip.{Held, rereadOf}
 use Rattle.stream.specs.Write.{streamOf, longest}
 use Rattle.stream.specs.declared.Reading.{Reading}
 use Rattle.stream.proofs.Lengths.{length-stream, stream-sizes}
 use Rattle.stream.proofs.ReadBack.{read-back as stream-read-back}
 use Rattle.stream.proofs.Answers.{read-rewritten, reading-checked}
+use Rattle.stream.proofs.Refusals.{read-gives}
 use Rattle.figures.specs.declared.Figure.{Figure}
 use Rattle.figures.specs.declared.FigureAnswer.the-variants as figures
 use Rattle.figures.specs.declared.WaitAnswer.the-variants as wait
-use Rattle.figures.specs.Figures.{IsFigure, IsFigures, IsWaitFor}
+use Rattle.figures.specs.Figures.{IsFigures, IsWaitFor}
 use Rattle.figures.proofs.Laws.{frame-of}
 use Rattle.figures.proofs.Questions.{Asked, figure-fine, wait-fine}
-use Rattle.figures.proofs.Answers.{given-fine, given-frame, given-scaled, given-owns, wait-given-fine, given-waits}
+use Rattle.figures.proofs.Answers.{given-frame, given-scaled, given-owns}
 use Rattle.arbiter.specs.Run.{SatisfiesEmptyOf, IsLatencyOf}
 use Rattle.arbiter.proofs.Latency.{least-empty-runs, latency-runs}
-use Rattle.promises.proofs.Demand1.{read-number, check-number}
 
 -- ---- plan files
 
 -- a read that is not refused
 not-refused : (s : List ℕ) → numberOf (readOf s .outcome) ≡ 0 → readOf s .outcome ≡ Fine
 unfolding readOf
-not-refused s h = numbered-fine 11 (readCheck s) (read-number s) h
+not-refused s h = gives-fine _ refl _ (read-gives s) h
 
 -- what is read is written back byte for byte
 pub written-back : (s : List ℕ) → Bytes s → numberOf (readOf s .outcome) ≡ 0 → streamOf (readOf s .plan) ≡ s
@@ -60,7 +61,7 @@ pub record ReadBack (plan : Plan) (r : Reading) : Type 0 where
 
 pub read-back : (plan : Plan) → Held plan → numberOf (planCheck plan) ≡ 0 → ReadBack plan (readOf (streamOf plan))
 read-back plan held h =
-    let e = stream-read-back plan held (numbered-fine 10 (planCheck plan) (check-number plan) h) in
+    let e = stream-read-back plan held (gives-fine _ refl _ (plan-gives plan) h) in
     rw e (record { number = refl; same = used-same plan; zeros = refl })
 
 -- "Plans are the same when f, n and the used places agree": they are read back as one
@@ -76,17 +77,14 @@ pub record Sized (plan : Plan) : Type 0 where
 
 pub sized : (plan : Plan) → numberOf (planCheck plan) ≡ 0 → Sized plan
 sized plan h =
-    let b = stream-sizes plan (numbered-fine 10 (planCheck plan) (check-number plan) h) in
+    let b = stream-sizes plan (gives-fine _ refl _ (plan-gives plan) h) in
     record { exact = length-stream plan; least = b .0; most = b .1 }
 
 -- ---- figures
 
 module _ (plan : Plan) (i : ℕ) (figure : Figure) (is : IsFigures plan (i + 1) (figures.Given figure)) where
   asked : Asked plan (i + 1)
-  asked = figure-fine plan (i + 1) (given-fine plan (i + 1) figure is)
-
-  right : IsFigure (ownOf plan (i + 1)) (plan .f) figure
-  right = is .figure (given-fine plan (i + 1) figure is)
+  asked = figure-fine plan (i + 1) (is .0)
 
   -- "The latency given for a drive that owns a slot is exactly the least one that satisfies Definition 1 .. at its
   -- allocated rate": it is L/m, and the rate m/f, on the arbiter's own runs
@@ -94,20 +92,20 @@ module _ (plan : Plan) (i : ℕ) (figure : Figure) (is : IsFigures plan (i + 1) 
   latency =
       let i< : i < plan .n = omega (arith, asked .high) in
       let frame = frame-of plan (i + 1) (asked .checked .bounds .f-low) in
-      rw (right .slots)
-      (latency-runs plan i i< (plan-pass plan (asked .checked)) frame (right .scaled) (asked .owns))
+      rw (is .1 .slots)
+      (latency-runs plan i i< (plan-pass plan (asked .checked)) frame (is .1 .scaled) (asked .owns))
 
   -- no smaller one satisfies it even in the busy periods that start with an empty queue
   pub latency-empty : (x y : ℕ) → SatisfiesEmptyOf plan i x y → figure .scaled * y ≤ x * figure .slots
   latency-empty x y sat =
       let i< : i < plan .n = omega (arith, asked .high) in
       let frame = frame-of plan (i + 1) (asked .checked .bounds .f-low) in
-      rw (right .slots)
-      (least-empty-runs plan i i< (plan-pass plan (asked .checked)) frame (right .scaled) x y sat)
+      rw (is .1 .slots)
+      (least-empty-runs plan i i< (plan-pass plan (asked .checked)) frame (is .1 .scaled) x y sat)
 
 module _ (plan : Plan) (c : ℕ) (figure : Figure) (is : IsFigures plan c (figures.Given figure)) where
   f-high : plan .f ≤ 64
-  f-high = figure-fine plan c (given-fine plan c figure is) .checked .bounds .f-high
+  f-high = figure-fine plan c (is .0) .checked .bounds .f-high
 
   -- "For m above 0, always f − m ≤ L ≤ m × (f − m)"
   pub limits : (plan .f - figure .slots ≤ figure .scaled)
@@ -128,8 +126,7 @@ module _ (plan : Plan) (c : ℕ) (figure : Figure) (is : IsFigures plan c (figur
 
 pub wait-limit : (plan : Plan) (c k slots : ℕ) → IsWaitFor plan c k (wait.Given slots) → slots ≤ 16383
 wait-limit plan c k slots is =
-    let ok = wait-fine plan c k (wait-given-fine plan c k slots is) in
-    let right = given-waits plan c k slots is in
+    let ok = wait-fine plan c k (is .0) in
     let bounds = ok .asked .checked .bounds in
-    let most = scaled-most (frame-of plan c (bounds .f-low)) (right .scaled) in
-    wait-small (ok .asked .owns) (bounds .f-high) most (ok .high) (right .least)
+    let most = scaled-most (frame-of plan c (bounds .f-low)) (is .1 .scaled) in
+    wait-small (ok .asked .owns) (bounds .f-high) most (ok .high) (is .1 .least)

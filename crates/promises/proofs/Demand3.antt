@@ -17,6 +17,7 @@ use Rattle.frame.proofs.Queue.{conserved, left-room, served-part, served-most, 
 use Rattle.frame.proofs.Service.{demand-three}
 use Rattle.frame.proofs.Within.{own-mod}
 use Rattle.records.specs.First.{numberOf}
+use Rattle.records.specs.Said.{saidNumber}
 use Rattle.plan.specs.declared.Plan.{Plan}
 use Rattle.plan.specs.Plan.{clientOf, ownerOf, ownOf}
 use Rattle.plan.proofs.Laws.{plan-fine, plan-pass, own-most}
@@ -24,11 +25,10 @@ use Rattle.figures.specs.declared.WaitAnswer.the-variants as wait
 use Rattle.figures.specs.Figures.{IsWaitFor}
 use Rattle.figures.proofs.Laws.{frame-of}
 use Rattle.figures.proofs.Questions.{wait-fine}
-use Rattle.figures.proofs.Answers.{wait-given-fine, given-waits}
 use Rattle.judge.specs.Judge.{Accepted}
 use Rattle.judge.proofs.Laws.{accepted-guaranteed}
 use Rattle.arbiter.specs.declared.Arbiter.{Arbiter}
-use Rattle.arbiter.specs.Step.{ruleOf, countOf, arrivedOf, stepOf, stepNumber, clientServed}
+use Rattle.arbiter.specs.Step.{ruleOf, countOf, arrivedOf, stepOf, stepSaid, clientServed}
 use Rattle.arbiter.specs.Run.{recordAfter, totalOf, Runs, servedOf, turnedOf, takenOf, pendingOf, servedInOf}
 use Rattle.arbiter.specs.Run.{AlwaysPendingOf, Agree}
 use Rattle.arbiter.proofs.Runs.{mine, mine-at, mine-length, mine-first, runs-first, served-run, turned-run, taken-run}
@@ -101,10 +101,8 @@ module _ (plan : Plan) (arb : Arbiter) (xss : List (List ℕ)) (runs : Runs plan
   pub served-in-time : (k slots : ℕ) → IsWaitFor plan (i + 1) k (wait.Given slots)
       → (d : ℕ) → k ≤ pendingOf plan i arb xss d → d + slots ≤ length xss → k ≤ servedInOf plan i arb xss d slots
   served-in-time k slots is d l fits =
-      let ok = wait-fine plan (i + 1) k (wait-given-fine plan (i + 1) k slots is) in
-      let right = given-waits plan (i + 1) k slots is in
-      let frame = frame-of plan (i + 1) (ok .asked .checked .bounds .f-low) in
-      run-in-wait plan i i< arb xss runs frame (right .scaled .bounded) d k slots (right .least .enough) l fits
+      let frame = frame-of plan (i + 1) (wait-fine plan (i + 1) k (is .0) .asked .checked .bounds .f-low) in
+      run-in-wait plan i i< arb xss runs frame (is .1 .scaled .bounded) d k slots (is .1 .least .enough) l fits
 
   -- "a pending count of 0 to 255"
   pub count-room : countOf arb i ≤ mostPending → countOf (recordAfter plan arb xss) i ≤ mostPending
@@ -172,7 +170,7 @@ served-its-owner plan arb xs c c> e =
 -- lists has n entries
 pub refused-nowhere : (plan : Plan) (arb : Arbiter) (xss : List (List ℕ)) → 0 < length xss
     → Runs plan arb xss ↔ ((d : ℕ) → d < length xss
-    → stepNumber (stepOf plan (recordAfter plan arb (take d xss)) (getD xss d []) .served .answer) ≡ 0)
+    → saidNumber (stepSaid (stepOf plan (recordAfter plan arb (take d xss)) (getD xss d []) .served .answer)) ≡ 0)
 unfolding recordAfter
 refused-nowhere plan arb xss some = (
   λ runs d l.
