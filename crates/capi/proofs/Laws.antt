@@ -6,6 +6,7 @@ use Prim.Native.Nat.{ℕ, _≤_, _<_}
 use native.Mathlib.Omega.{arith}
 use lib.ListN.{length, getD, replicate}
 use lib.Seq.{take-all}
+use Rattle.records.specs.Said.{Said, saidNumber, saidOr}
 use Rattle.records.specs.Pieces.{part}
 use Rattle.records.specs.Put.{Put}
 use Rattle.records.specs.declared.Outcome.{Outcome}
@@ -21,16 +22,16 @@ use Rattle.stream.proofs.Lengths.{length-stream}
 use Rattle.search.specs.declared.SearchAnswer.{SearchAnswer}
 use Rattle.search.specs.declared.SearchAnswer.the-variants as finding
 use Rattle.search.specs.declared.Searched.{Searched}
-use Rattle.search.specs.Search.{idlePlan, searchCheck, SearchedAs, searchedNumber}
+use Rattle.search.specs.Search.{searchCheck, searchSaid, SearchedAs}
 use Rattle.search.proofs.Questions.{search-fine}
 use Rattle.search.proofs.Same.{check-idle}
 use Rattle.arbiter.specs.declared.Arbiter.{Arbiter}
 use Rattle.arbiter.specs.declared.Stepped.{Stepped}
-use Rattle.arbiter.specs.Step.{joined, servedNow, advanced, stepCheck, stepOf, stepNumber, clientServed}
+use Rattle.arbiter.specs.Step.{joined, servedNow, advanced, stepCheck, stepOf, stepSaid, clientServed}
 use Rattle.arbiter.proofs.Questions.{step-fine, owner-small}
 use Rattle.arbiter.proofs.Slots.{served-at-most, either}
 use Rattle.arbiter.proofs.Runs.{passes-again}
-use Rattle.capi.specs.Calls.{firstNumber, Told, IsSearchedFor, foundStream, ToldSearch}
+use Rattle.capi.specs.Calls.{firstNumber, Told, emptied, IsSearchedFor, foundStream, ToldSearch}
 use Rattle.capi.specs.Calls.{recordIn, recordBytes, servedBytes, ToldStep}
 
 -- ---- an answer about what was read
@@ -41,10 +42,10 @@ pub first-told : (s : List ℕ) {reading : Reading} {t r number : ℕ} → readi
 first-told s e f h = rw (sym e) (rw (sym f) h)
 
 -- what the library answers of the plan that was read
-pub told : {A : Type 0} {Is : Plan → A → Type 0} {number : A → ℕ} {numbers : A → List ℕ} {s : List ℕ} {t r : ℕ}
-    {lent : List ℕ} {reading : Reading} (answer : A) → reading ≡ readOf s → Is (reading .plan) answer
-    → t ≡ number answer → r ≡ firstNumber (reading .outcome) t → lent ≡ numbers answer
-    → Told Is number numbers s r lent
+pub told : {R A : Type 0} {Is : Plan → R → Type 0} {say : R → Said A} {zero : A} {values : A → List ℕ} {s : List ℕ}
+    {t r : ℕ} {lent : List ℕ} {reading : Reading} (answer : R) → reading ≡ readOf s → Is (reading .plan) answer
+    → t ≡ saidNumber (say answer) → r ≡ firstNumber (reading .outcome) t → lent ≡ values (saidOr zero (say answer))
+    → Told Is say zero values s r lent
 told {Is = Is} {s = s} answer e is f h lent =
     record {
       answer = answer;
@@ -55,7 +56,7 @@ told {Is = Is} {s = s} answer e is f h lent =
 
 -- what the search answers of the requirements that were read
 pub told-search : {s out now : List ℕ} {t r size : ℕ} {reading : Reading} (answer : Searched) → reading ≡ readOf s
-    → IsSearchedFor (reading .plan) answer → t ≡ searchedNumber (answer .answer)
+    → IsSearchedFor (reading .plan) answer → t ≡ saidNumber (searchSaid (answer .answer))
     → r ≡ firstNumber (reading .outcome) t
     → Put out 0 (foundStream (reading .plan) (answer .answer) (answer .owners)) now size → ToldSearch s out r size now
 told-search {s = s} {out = out} {now = now} {size = size} answer e is f h put =
@@ -81,7 +82,7 @@ told-refused {k = k} {reading = reading} e f g =
 -- a step on the plan and with the record that were read
 pub told-step : {s bytes xs after answer : List ℕ} {t r : ℕ} {reading : Reading} {arb : Arbiter} (stepped : Stepped)
     → reading ≡ readOf s → arb ≡ recordIn bytes → stepped ≡ stepOf (reading .plan) arb xs
-    → t ≡ stepNumber (stepped .served .answer) → r ≡ firstNumber (reading .outcome) t
+    → t ≡ saidNumber (stepSaid (stepped .served .answer)) → r ≡ firstNumber (reading .outcome) t
     → after ≡ recordBytes (stepped .next) → answer ≡ servedBytes (stepped .served) → ToldStep s bytes xs r after answer
 told-step {s = s} stepped e record-is is f h kept stored =
     record {
@@ -100,11 +101,10 @@ listed e f = rw e (rw f)
 
 -- the output has room for it
 pub found-fits : (plan : Plan) (a : SearchAnswer) (owners : List ℕ)
-    → SearchedAs (idlePlan (plan .f) (plan .n) (plan .clients)) a owners → a ≡ finding.Found
+    → SearchedAs (emptied plan) a owners → a ≡ finding.Found
     → (plan .f ≤ 64) × (plan .n ≤ 8) × (length (streamOf (withTable plan owners)) ≤ longest)
 found-fits plan a owners is e =
-    let idle = idlePlan (plan .f) (plan .n) (plan .clients) in
-    let ok = search-fine idle (subst (λ (x : SearchAnswer). SearchedAs idle x owners) e is .0) in
+    let ok = search-fine (emptied plan) (subst (λ (x : SearchAnswer). SearchedAs (emptied plan) x owners) e is .0) in
     let short = ok .short in
     let few = ok .few in
     let long = length-stream (withTable plan owners) in

@@ -1,5 +1,5 @@
 -- The laws of `capi`: a file rests only on those before it.
 -- Assumes nothing.
 pub mod Laws
-pub mod Once
-pub mod Refused
+pub mod Entries
+

@@ -6,6 +6,7 @@ use mathlib.Core.List.{List, [], _∷_}
 use Prim.Native.Nat.{ℕ}
 use lib.ListN.{getD}
 use Rattle.records.specs.First.{numberOf, offsetOf}
+use Rattle.records.specs.Said.{Said, saidNumber, saidOr}
 use Rattle.records.specs.Pieces.{part}
 use Rattle.records.specs.Put.{Put}
 use Rattle.records.specs.declared.Outcome.{Outcome}
@@ -14,63 +15,48 @@ use Rattle.plan.specs.declared.Plan.{Plan}
 use Rattle.plan.specs.Plan.{withTable}
 use Rattle.stream.specs.Read.{readOf}
 use Rattle.stream.specs.Trip.{Copied}
-use Rattle.stream.specs.Write.{streamOf, writtenNumber, writtenSize}
+use Rattle.stream.specs.Write.{streamOf, writeSaid}
 use Rattle.stream.specs.declared.WriteAnswer.{WriteAnswer}
-use Rattle.figures.specs.declared.FigureAnswer.{FigureAnswer}
-use Rattle.figures.specs.declared.WaitAnswer.{WaitAnswer}
-use Rattle.figures.specs.Figures.{figureIn, waitIn}
+use Rattle.figures.specs.declared.Figure.{Figure}
 use Rattle.judge.specs.declared.Verdict.{Verdict}
 use Rattle.judge.specs.declared.Verdict.the-variants.{Ok, Rate, Late}
-use Rattle.judge.specs.declared.JudgeAnswer.{JudgeAnswer}
-use Rattle.judge.specs.declared.JudgeAnswer.the-variants as judged
 use Rattle.judge.specs.declared.Judgement.{Judgement}
-use Rattle.judge.specs.declared.VerdictAnswer.{VerdictAnswer}
-use Rattle.judge.specs.declared.VerdictAnswer.the-variants as verdicts
-use Rattle.judge.specs.Judge.{acceptance}
 use Rattle.search.specs.declared.SearchAnswer.{SearchAnswer}
 use Rattle.search.specs.declared.SearchAnswer.the-variants as finding
 use Rattle.search.specs.declared.Searched.{Searched}
-use Rattle.search.specs.Search.{idlePlan, IsSearched, searchedNumber}
+use Rattle.search.specs.Search.{idlePlan, searchSaid, IsSearched}
 use Rattle.arbiter.specs.declared.Served.{Served}
 use Rattle.arbiter.specs.declared.Arbiter.{Arbiter}
 use Rattle.arbiter.specs.declared.Stepped.{Stepped}
-use Rattle.arbiter.specs.Step.{stepOf, stepNumber, clientServed}
+use Rattle.arbiter.specs.Step.{stepOf, stepSaid, clientServed}
 
--- ---- an answer's numbers, in the order in which they are stored
+-- ---- an answer's values, in the order in which they are stored, and what stands in for them in a refusal
 
 -- m and L
-abbrev pub figureNumbers : FigureAnswer → List ℕ
-figureNumbers answer = figureIn answer .slots ∷ figureIn answer .scaled ∷ []
+abbrev pub figureValues : Figure → List ℕ
+figureValues figure = figure .slots ∷ figure .scaled ∷ []
+
+-- "all other results 0"
+abbrev pub noFigure : Figure
+noFigure = record { slots = 0; scaled = 0 }
 
 -- the wait
-abbrev pub waitNumbers : WaitAnswer → List ℕ
-waitNumbers answer = waitIn answer ∷ []
+abbrev pub waitValues : ℕ → List ℕ
+waitValues wait = wait ∷ []
 
--- a verdict's number
+-- a verdict's number; that of `ok`, 0, stands in a refusal, too
 abbrev pub verdictCode : Verdict → ℕ
 verdictCode Ok = 0
 verdictCode Rate = 1
 verdictCode Late = 2
 
--- where judging stopped; a refusal has 0 for client, start and length, and `ok`, whose number is 0
-abbrev pub judgementIn : JudgeAnswer → Judgement
-judgementIn (judged.Given found) = found
-judgementIn (judged.Refused number) = acceptance
-
--- client, verdict, start and length
-abbrev pub judgedNumbers : JudgeAnswer → List ℕ
-judgedNumbers answer =
-    judgementIn answer .client ∷ verdictCode (judgementIn answer .verdict) ∷ judgementIn answer .start
-    ∷ judgementIn answer .length ∷ []
-
--- the number of an answer's verdict, 0 in a refusal
-abbrev pub codeIn : VerdictAnswer → ℕ
-codeIn (verdicts.Given verdict) = verdictCode verdict
-codeIn (verdicts.Refused number) = 0
-
 -- that number
-abbrev pub verdictNumbers : VerdictAnswer → List ℕ
-verdictNumbers answer = codeIn answer ∷ []
+abbrev pub verdictValues : Verdict → List ℕ
+verdictValues verdict = verdictCode verdict ∷ []
+
+-- client, verdict, start and length; those of an accepted plan, all 0, stand in a refusal, too
+abbrev pub judgementValues : Judgement → List ℕ
+judgementValues found = found .client ∷ verdictCode (found .verdict) ∷ found .start ∷ found .length ∷ []
 
 -- ---- what is told
 
@@ -84,27 +70,31 @@ abbrev pub firstNumber : Outcome → ℕ → ℕ
 firstNumber outcome.Fine number = number
 firstNumber (outcome.Refused k offset) number = k
 
--- of a question about the plan of a stream, Is saying what its answer is: r is returned, and the numbers of the answer
--- are those that are lent, after the call
-pub record Told {A : Type 0} (Is : Plan → A → Type 0) (number : A → ℕ) (numbers : A → List ℕ) (s : List ℕ) (r : ℕ)
-    (lent : List ℕ) : Type 0 where
-  pub answer : A
+-- of a question about the plan of a stream, Is saying what its answer is: r is returned, and the values of what the
+-- answer says, or of zero, are those that are lent, after the call
+pub record Told {R A : Type 0} (Is : Plan → R → Type 0) (say : R → Said A) (zero : A) (values : A → List ℕ)
+    (s : List ℕ) (r : ℕ) (lent : List ℕ) : Type 0 where
+  pub answer : R
   pub is : Is (readOf s .plan) answer
-  pub returned : r ≡ firstNumber (readOf s .outcome) (number answer)
-  pub stored : lent ≡ numbers answer
+  pub returned : r ≡ firstNumber (readOf s .outcome) (saidNumber (say answer))
+  pub stored : lent ≡ values (saidOr zero (say answer))
 
 -- of a stream that is read and written back into out: its own bytes, and their number
 pub record ToldWrite (s out : List ℕ) (r size : ℕ) (now : List ℕ) : Type 0 where
   pub answer : WriteAnswer
   pub is : Copied s out answer now
-  pub returned : r ≡ writtenNumber answer
-  pub stored : size ≡ writtenSize answer
+  pub returned : r ≡ saidNumber (writeSaid answer)
+  pub stored : size ≡ saidOr 0 (writeSaid answer)
 
 -- ---- the search
 
--- the search with a plan's frame and requirements
+-- a plan's frame and requirements, all of its slots idle
+abbrev pub emptied : Plan → Plan
+emptied plan = idlePlan (plan .f) (plan .n) (plan .clients)
+
+-- the search for these
 abbrev pub IsSearchedFor : Plan → Searched → Type 0
-IsSearchedFor plan = IsSearched (idlePlan (plan .f) (plan .n) (plan .clients))
+IsSearchedFor plan = IsSearched (emptied plan)
 
 -- the stream of the plan with the table found; no bytes where there is none, and in a refusal
 abbrev pub foundStream : Plan → SearchAnswer → List ℕ → List ℕ
@@ -116,7 +106,7 @@ foundStream plan (finding.Refused number) owners = []
 pub record ToldSearch (s out : List ℕ) (r size : ℕ) (now : List ℕ) : Type 0 where
   pub answer : Searched
   pub is : IsSearchedFor (readOf s .plan) answer
-  pub returned : r ≡ firstNumber (readOf s .outcome) (searchedNumber (answer .answer))
+  pub returned : r ≡ firstNumber (readOf s .outcome) (saidNumber (searchSaid (answer .answer)))
   pub put : Put out 0 (foundStream (readOf s .plan) (answer .answer) (answer .owners)) now size
 
 -- ---- the step
@@ -137,6 +127,6 @@ servedBytes served = clientServed (served .answer) ∷ served .turned
 pub record ToldStep (s bytes arrivals : List ℕ) (r : ℕ) (after answer : List ℕ) : Type 0 where
   pub stepped : Stepped
   pub is : stepped ≡ stepOf (readOf s .plan) (recordIn bytes) arrivals
-  pub returned : r ≡ firstNumber (readOf s .outcome) (stepNumber (stepped .served .answer))
+  pub returned : r ≡ firstNumber (readOf s .outcome) (saidNumber (stepSaid (stepped .served .answer)))
   pub kept : after ≡ recordBytes (stepped .next)
   pub stored : answer ≡ servedBytes (stepped .served)

@@ -21,13 +21,15 @@ ghost use mathlib.Core.Path.{_≡_};
 ghost use mathlib.Core.List.{_∷_};
 ghost use Prim.Native.Nat.{_<_};
 ghost use Rattle.records.specs.First.{numberOf, offsetOf};
+ghost use Rattle.records.specs.Said.{saidNumber, saidOr};
 ghost use Rattle.records.specs.Put.{Put};
-ghost use Rattle.stream.specs.Write.{writtenNumber, writtenSize};
-ghost use Rattle.figures.specs.Figures.{figuresNumber, figureIn, waitNumber, waitIn};
-ghost use Rattle.judge.specs.Judge.{judgedNumber, verdictNumber};
-ghost use Rattle.search.specs.Search.{searchedNumber};
-ghost use Rattle.arbiter.specs.Step.{stepNumber, clientServed};
-ghost use Rattle.capi.specs.Calls.{firstNumber, verdictCode, judgementIn, codeIn, IsSearchedFor, foundStream};
+ghost use Rattle.stream.specs.Write.{writeSaid};
+ghost use Rattle.figures.specs.Figures.{figureSaid, waitSaid};
+ghost use Rattle.judge.specs.declared.Verdict.the-variants.{Ok};
+ghost use Rattle.judge.specs.Judge.{acceptance, judgeSaid, verdictSaid};
+ghost use Rattle.search.specs.Search.{searchSaid};
+ghost use Rattle.arbiter.specs.Step.{stepSaid, clientServed};
+ghost use Rattle.capi.specs.Calls.{noFigure, verdictCode, firstNumber, IsSearchedFor, foundStream};
 ghost use Rattle.capi.specs.Calls.{recordIn, recordBytes, servedBytes};
 
 // Reading's refusal, else an answer's own number.
@@ -58,8 +60,9 @@ pub fn tell_outcome(outcome: Outcome, offset: &mut usize) -> usize
 
 // Figures.
 pub fn tell_figures(answer: FigureAnswer, slots: &mut usize, scaled: &mut usize) -> usize
-    ensures { λ r. ⌜ (r ≡ figuresNumber answer) × (now (slots .exit) ≡ figureIn answer .slots)
-        × (now (scaled .exit) ≡ figureIn answer .scaled) ⌝ }
+    ensures { λ r. ⌜ (r ≡ saidNumber (figureSaid answer))
+        × (now (slots .exit) ≡ saidOr noFigure (figureSaid answer) .slots)
+        × (now (scaled .exit) ≡ saidOr noFigure (figureSaid answer) .scaled) ⌝ }
 {
     match answer {
         FigureAnswer::Given(figure) => {
@@ -77,7 +80,7 @@ pub fn tell_figures(answer: FigureAnswer, slots: &mut usize, scaled: &mut usize)
 
 // A wait.
 pub fn tell_wait(answer: WaitAnswer, wait: &mut usize) -> usize
-    ensures { λ r. ⌜ (r ≡ waitNumber answer) × (now (wait .exit) ≡ waitIn answer) ⌝ }
+    ensures { λ r. ⌜ (r ≡ saidNumber (waitSaid answer)) × (now (wait .exit) ≡ saidOr 0 (waitSaid answer)) ⌝ }
 {
     match answer {
         WaitAnswer::Given(slots) => {
@@ -110,9 +113,11 @@ pub fn tell_judged(
     start: &mut usize,
     length: &mut usize,
 ) -> usize
-    ensures { λ r. ⌜ (r ≡ judgedNumber answer) × (now (client .exit) ≡ judgementIn answer .client)
-        × (now (verdict .exit) ≡ verdictCode (judgementIn answer .verdict))
-        × (now (start .exit) ≡ judgementIn answer .start) × (now (length .exit) ≡ judgementIn answer .length) ⌝ }
+    ensures { λ r. ⌜ (r ≡ saidNumber (judgeSaid answer))
+        × (now (client .exit) ≡ saidOr acceptance (judgeSaid answer) .client)
+        × (now (verdict .exit) ≡ verdictCode (saidOr acceptance (judgeSaid answer) .verdict))
+        × (now (start .exit) ≡ saidOr acceptance (judgeSaid answer) .start)
+        × (now (length .exit) ≡ saidOr acceptance (judgeSaid answer) .length) ⌝ }
 {
     match answer {
         JudgeAnswer::Given(found) => {
@@ -135,7 +140,8 @@ pub fn tell_judged(
 
 // A verdict.
 pub fn tell_verdict(answer: VerdictAnswer, verdict: &mut usize) -> usize
-    ensures { λ r. ⌜ (r ≡ verdictNumber answer) × (now (verdict .exit) ≡ codeIn answer) ⌝ }
+    ensures { λ r. ⌜ (r ≡ saidNumber (verdictSaid answer))
+        × (now (verdict .exit) ≡ verdictCode (saidOr Ok (verdictSaid answer))) ⌝ }
 {
     match answer {
         VerdictAnswer::Given(given) => {
@@ -151,7 +157,7 @@ pub fn tell_verdict(answer: VerdictAnswer, verdict: &mut usize) -> usize
 
 // A length written.
 pub fn tell_written(answer: WriteAnswer, length: &mut usize) -> usize
-    ensures { λ r. ⌜ (r ≡ writtenNumber answer) × (now (length .exit) ≡ writtenSize answer) ⌝ }
+    ensures { λ r. ⌜ (r ≡ saidNumber (writeSaid answer)) × (now (length .exit) ≡ saidOr 0 (writeSaid answer)) ⌝ }
 {
     match answer {
         WriteAnswer::Given(size) => {
@@ -173,7 +179,7 @@ pub fn tell_searched(
     length: &mut usize,
 ) -> usize
     requires { ⌜ IsSearchedFor plan searched ⌝ }
-    ensures { λ r. ⌜ (r ≡ searchedNumber (searched .answer))
+    ensures { λ r. ⌜ (r ≡ saidNumber (searchSaid (searched .answer)))
         × Put (now (out .entry)) 0 (foundStream plan (searched .answer) (searched .owners))
         (now (out .exit)) (now (length .exit)) ⌝ }
 {
@@ -245,7 +251,7 @@ fn served_of(answer: StepAnswer) -> u8
 
 // The refusal's number of a step.
 fn number_of(answer: StepAnswer) -> usize
-    ensures { λ r. ⌜ r ≡ stepNumber answer ⌝ }
+    ensures { λ r. ⌜ r ≡ saidNumber (stepSaid answer) ⌝ }
 {
     match answer {
         StepAnswer::Given(_) => 0,
@@ -260,7 +266,7 @@ pub fn tell_stepped(
     answer: &mut [u8; RECORD],
 ) -> usize
     requires { ⌜ (stepped .next .position < 256) × (clientServed (stepped .served .answer) < 256) ⌝ }
-    ensures { λ r. ⌜ (r ≡ stepNumber (stepped .served .answer))
+    ensures { λ r. ⌜ (r ≡ saidNumber (stepSaid (stepped .served .answer)))
         × (now (arbiter .exit) ≡ recordBytes (stepped .next)) × (now (answer .exit) ≡ servedBytes (stepped .served)) ⌝ }
 {
     let next = stepped.next;

@@ -15,10 +15,11 @@ use text::PAGE;
 ghost use mathlib.Core.List.{_∷_, []};
 ghost use Rattle.plan.specs.Plan.{defaultWaiting};
 ghost use Rattle.text.specs.Text.{Puts, Lendable};
-ghost use Rattle.figures.specs.Figures.{IsFigures, figuresNumber, IsWaitFor, waitNumber};
-ghost use Rattle.judge.specs.Judge.{IsJudged, judgedNumber, IsVerdictOf, verdictNumber};
+ghost use Rattle.figures.specs.Figures.{figureSaid, IsFigures, waitSaid, IsWaitFor};
+ghost use Rattle.judge.specs.declared.Verdict.the-variants.{Ok};
+ghost use Rattle.judge.specs.Judge.{acceptance, judgeSaid, IsJudged, verdictSaid, IsVerdictOf};
 ghost use Rattle.listing.specs.Listing.{IsReport, IsHoming};
-ghost use Rattle.capi.specs.Calls.{figureNumbers, waitNumbers, judgedNumbers, verdictNumbers};
+ghost use Rattle.capi.specs.Calls.{figureValues, noFigure, waitValues, verdictValues, judgementValues};
 ghost use Rattle.capi.specs.Calls.{ToldRead, Told, ToldWrite, ToldSearch, ToldStep};
 
 // The bytes of an arbiter's record, and of a step's answer.
@@ -42,7 +43,7 @@ pub extern "C" fn gwelathur_figures(
     slots: &mut usize,
     scaled: &mut usize,
 ) -> usize
-    ensures { λ r. ⌜ Told (λ plan. IsFigures plan client) figuresNumber figureNumbers (now (s .entry)) r
+    ensures { λ r. ⌜ Told (λ plan. IsFigures plan client) figureSaid noFigure figureValues (now (s .entry)) r
         (now (slots .exit) ∷ now (scaled .exit) ∷ []) ⌝ }
 {
     let reading = stream::read(s);
@@ -55,7 +56,7 @@ pub extern "C" fn gwelathur_figures(
 // A client's wait for this many waiting requests.
 #[no_mangle]
 pub extern "C" fn gwelathur_wait(s: &[u8], client: usize, waiting: usize, wait: &mut usize) -> usize
-    ensures { λ r. ⌜ Told (λ plan. IsWaitFor plan client waiting) waitNumber waitNumbers (now (s .entry)) r
+    ensures { λ r. ⌜ Told (λ plan. IsWaitFor plan client waiting) waitSaid 0 waitValues (now (s .entry)) r
         (now (wait .exit) ∷ []) ⌝ }
 {
     let reading = stream::read(s);
@@ -68,7 +69,7 @@ pub extern "C" fn gwelathur_wait(s: &[u8], client: usize, waiting: usize, wait: 
 // A client's wait, asked without a number.
 #[no_mangle]
 pub extern "C" fn gwelathur_default_wait(s: &[u8], client: usize, wait: &mut usize) -> usize
-    ensures { λ r. ⌜ Told (λ plan. IsWaitFor plan client defaultWaiting) waitNumber waitNumbers (now (s .entry)) r
+    ensures { λ r. ⌜ Told (λ plan. IsWaitFor plan client defaultWaiting) waitSaid 0 waitValues (now (s .entry)) r
         (now (wait .exit) ∷ []) ⌝ }
 {
     gwelathur_wait(s, client, Plan::DEFAULT_WAITING, wait)
@@ -83,7 +84,7 @@ pub extern "C" fn gwelathur_judge(
     start: &mut usize,
     length: &mut usize,
 ) -> usize
-    ensures { λ r. ⌜ Told IsJudged judgedNumber judgedNumbers (now (s .entry)) r
+    ensures { λ r. ⌜ Told IsJudged judgeSaid acceptance judgementValues (now (s .entry)) r
         (now (client .exit) ∷ now (verdict .exit) ∷ now (start .exit) ∷ now (length .exit) ∷ []) ⌝ }
 {
     let reading = stream::read(s);
@@ -99,7 +100,7 @@ pub extern "C" fn gwelathur_judge(
 // A client's verdict.
 #[no_mangle]
 pub extern "C" fn gwelathur_verdict(s: &[u8], client: usize, verdict: &mut usize) -> usize
-    ensures { λ r. ⌜ Told (λ plan. IsVerdictOf plan client) verdictNumber verdictNumbers (now (s .entry)) r
+    ensures { λ r. ⌜ Told (λ plan. IsVerdictOf plan client) verdictSaid Ok verdictValues (now (s .entry)) r
         (now (verdict .exit) ∷ []) ⌝ }
 {
     let reading = stream::read(s);

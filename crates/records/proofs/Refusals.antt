@@ -8,14 +8,14 @@ use Prim.Native.Nat.{ℕ, zero, suc, _-_, _≤_, _<_}
 use native.Mathlib.Omega.{arith}
 use lib.Dec.{ltb, leb, eqb}
 use lib.ListN.{length}
-use borrow.Author.Tests.{leb-false}
+use borrow.Author.Tests.{eqb-true, leb-false}
 use Rattle.records.specs.Refusal as refusal
 use Rattle.records.specs.First.{pick, between, unless, rangeCheck, orElse, firstOf, numberOf, offsetOf, among}
 use Rattle.records.specs.First.{Gives}
 use Rattle.records.specs.Record.{recordCheck, overCheck}
 use Rattle.records.specs.declared.Outcome.{Outcome}
 use Rattle.records.specs.declared.Outcome.the-variants.{Fine, Refused}
-use Rattle.records.proofs.Checks.{false-true}
+use Rattle.records.proofs.Checks.{false-true, both-true}
 
 -- ---- any property of what checks find
 
@@ -72,6 +72,26 @@ or-gives a b (Refused k offset) y p q = among-left k a b p
 
 pub first-gives : (ks : List ℕ) (g : ℕ → Outcome) → ((i : ℕ) → Gives ks (g i)) → (n : ℕ) → Gives ks (firstOf g n)
 first-gives ks = first-each (Gives ks) tt
+
+-- a list whose numbers all stand in another
+abbrev pub allAmong : List ℕ → List ℕ → Bool
+allAmong [] b = true
+allAmong (x ∷ a) b = pick (among x b) (allAmong a b) false
+
+one-among : (k x : ℕ) (b : List ℕ) {rest : Bool} (c : Bool) → eqb k x ≡ c → among x b ≡ true
+    → (rest ≡ true → among k b ≡ true) → pick c true rest ≡ true → among k b ≡ true
+one-among k x b true q here more e = ap (λ (n : ℕ). among n b) (eqb-true k x q) ∙ here
+one-among k x b false q here more e = more e
+
+among-all : (k : ℕ) (a b : List ℕ) → allAmong a b ≡ true → among k a ≡ true → among k b ≡ true
+among-all k [] b h e = false-true e
+among-all k (x ∷ a) b h e =
+    let all = both-true (among x b) (allAmong a b) h in
+    one-among k x b (eqb k x) refl (all .0) (among-all k a b (all .1)) e
+
+pub gives-more : (a b : List ℕ) → allAmong a b ≡ true → (o : Outcome) → Gives a o → Gives b o
+gives-more a b h Fine g = tt
+gives-more a b h (Refused k offset) g = among-all k a b h g
 
 -- a number 0 says that nothing is refused
 pub gives-fine : (ks : List ℕ) → among 0 ks ≡ false → (o : Outcome) → Gives ks o → numberOf o ≡ 0 → o ≡ Fine

@@ -3,6 +3,7 @@
 use mathlib.Core.Path.{refl}
 use Rattle.records.specs.Entry.{Tight, contract, Tied}
 use Rattle.records.proofs.Said.{beside-number, beside-refused}
+use Rattle.records.proofs.Entry.{tied}
 use Rattle.search.specs.declared.SearchAnswer.the-variants as finding
 use Rattle.search.specs.Search.{idlePlan, searchCheck, searchSaid}
 use Rattle.search.specs.Entries.{searchEntry}
