@@ -1,40 +1,35 @@
 -- The bench examples are right: a test of each is computed, and says that the answer is one that the contract allows;
--- and it allows no other.
+-- and it allows no other. What a refusal or a run is asked for is computed in the same way.
 -- Assumes nothing.
 use mathlib.Core.Path.{_≡_, refl, sym, ap, _∙_, fun-ext}
 use mathlib.Core.Bool.{Bool, true, false}
 use mathlib.Core.List.{List, [], _∷_, _++_}
 use Prim.Native.Nat.{ℕ, _+_, _-_, _%_, _≤_, _<_}
-use native.Mathlib.Nat.{mod-lt}
+use native.Mathlib.Nat.{mod-lt, zero-add}
 use native.Mathlib.Omega.{arith}
-use lib.Dec.{eqb, leb}
-use lib.ListN.{take, replicate}
+use lib.Dec.{eqb, leb, ltb}
+use lib.ListN.{length, getD, take, replicate}
 use lib.Seq.{take-at, drop-at}
-use borrow.Author.Tests.{eqb-true, leb-true}
+use borrow.Author.Tests.{eqb-true, leb-true, ltb-true}
 use Rattle.frame.specs.Frame.{slotsOf, within, Frame}
 use Rattle.frame.specs.Largest.{largest, lack, lackFrom, scaledOf, waitOf}
-use Rattle.frame.proofs.Scaled.{scaled-is, wait-is}
-use Rattle.records.specs.Refusal as refusal
-use Rattle.records.specs.First.{pick, rangeCheck, firstOf}
+use Rattle.records.specs.First.{pick, rangeCheck, firstOf, RefusedBy}
 use Rattle.records.specs.Pieces.{firsts, onto, padded}
 use Rattle.records.specs.declared.Outcome.the-variants.{Fine}
-use Rattle.records.proofs.Checks.{both-true, range-pass, one-or-none, refused-fine}
+use Rattle.records.proofs.Checks.{both-true, one-or-none, refused-number, refused-fine}
 use Rattle.records.proofs.Lists.{get-padded}
 use Rattle.plan.specs.declared.Client.{Client}
 use Rattle.plan.specs.declared.Plan.{Plan}
-use Rattle.plan.specs.Plan.{noClient, clientOf, ownerOf, ownIn, ownOf}
+use Rattle.plan.specs.Plan.{noClient, clientOf, ownerOf, ownIn, ownOf, defaultWaiting}
 use Rattle.plan.specs.Check.{clientCheck, ownerCheck, clientCheckOf, requirementsCheck, ownerCheckOf}
-use Rattle.plan.specs.Check.{ownersCheck, planCheck}
+use Rattle.plan.specs.Check.{ownersCheck, planCheck, askedCheck}
 use Rattle.plan.proofs.Laws.{Required, Checked, plan-fine}
-use Rattle.figures.specs.declared.Figure.{Figure}
 use Rattle.figures.specs.declared.FigureAnswer.{FigureAnswer}
 use Rattle.figures.specs.declared.FigureAnswer.the-variants as figures
 use Rattle.figures.specs.declared.WaitAnswer.the-variants as wait
-use Rattle.figures.specs.Check.{mostWaiting}
-use Rattle.figures.specs.Figures.{IsFigure, figuresNumber, figureIn, waitNumber, waitIn}
+use Rattle.figures.specs.Check.{figureCheck, waitCheck}
+use Rattle.figures.specs.Figures.{IsFigures, figuresNumber, figureIn, IsWaitFor, waitNumber, waitIn}
 use Rattle.figures.proofs.Laws.{frame-of}
-use Rattle.figures.proofs.Questions.{Asked, figure-pass}
-use Rattle.figures.proofs.Answers.{figures-given, waits-given}
 use Rattle.figures.proofs.Once.{figures-once, waits-once}
 use Rattle.judge.specs.declared.JudgeAnswer.{JudgeAnswer}
 use Rattle.judge.specs.declared.JudgeAnswer.the-variants as judged
@@ -49,12 +44,19 @@ use Rattle.search.specs.declared.SearchAnswer.{SearchAnswer}
 use Rattle.search.specs.declared.SearchAnswer.the-variants as finding
 use Rattle.search.specs.Search.{searchCheck, sizeCheck, AcceptedIn, SearchedAs}
 use Rattle.search.proofs.Questions.{search-fine}
+use Rattle.arbiter.specs.declared.Arbiter.{Arbiter}
 use Rattle.arbiter.specs.Step.{ruleFor, servedBy, lessOne, advanced, positionCheck, arrivalsCheck, stepCheck, stepOf}
+use Rattle.arbiter.specs.Run.{recordAfter, totalOf, servedOf, pendingOf}
 use Rattle.promises.specs.Bench.{Schedule, among, schedulePlan, searchPlan, little, Question, figure, waiting}
-use Rattle.promises.specs.Bench.{accepted, late, found, none, steps, Answered, Right, AllRight, questions}
-use Rattle.promises.proofs.Tests.{allBelow, fineTest, fine-tested, okTest, ok-tested, lateTest, late-tested}
-use Rattle.promises.proofs.Tests.{acceptTest, everyTable, lexTest, betterTest, noneTest, none-tested, bestTest}
-use Rattle.promises.proofs.Tests.{best-tested, numbersTest, answerTest, stepTest, step-tested}
+use Rattle.promises.specs.Bench.{defaultWait, refusedFigure, refusedWait, accepted, late, found, none}
+use Rattle.promises.specs.Bench.{refusedSearch, searchable, steps, onePending, Answered, OnePending, Right}
+use Rattle.promises.specs.Bench.{AllRight, questions}
+use Rattle.promises.proofs.Tests.{allBelow, each-below, fineTest, fine-tested, refusedTest, refused-tested}
+use Rattle.promises.proofs.Tests.{okTest, ok-tested, lateTest, late-tested, acceptTest, everyTable, lexTest}
+use Rattle.promises.proofs.Tests.{betterTest, noneTest, none-tested, bestTest, best-tested, numbersTest}
+use Rattle.promises.proofs.Tests.{answerTest, stepTest, step-tested}
+use Rattle.promises.proofs.Figured.{every, figureTest, waitTest, Figured, figured, figure-allowed, wait-allowed}
+use Rattle.promises.proofs.Figured.{figure-refusal, wait-refusal}
 
 -- ---- a schedule as a plan
 
@@ -96,124 +98,115 @@ schedule-checked client t ok f> f≤ =
 
 -- ---- the test of a question
 
--- all of a list are true
-abbrev every : List Bool → Bool
-every [] = true
-every (b ∷ bs) = pick b (every bs) false
+-- f is 1 to 64, and the client's figures are m and L
+abbrev scheduleTest : Schedule → ℕ → ℕ → Bool
+scheduleTest t m L = every (leb 1 (t .f) ∷ leb (t .f) 64 ∷ figureTest (ownBy t) (t .f) m L ∷ [])
 
--- f is 1 to 64, m is the client's slots, and not 0, and L is what `frame` works out
-abbrev figureTest : Schedule → ℕ → ℕ → Bool
-figureTest t m L =
+-- its wait for k, with the figures that `frame` works out
+abbrev scheduleWaitTest : Schedule → ℕ → ℕ → Bool
+scheduleWaitTest t k slots =
+    let m = slotsOf (ownBy t) (t .f) in
+    let L = scaledOf (ownBy t) (t .f) m in
+    pick (scheduleTest t m L) (waitTest (t .f) m L k slots) false
+
+-- a plan's run in which client i + 1 has one request pending in each slot
+abbrev onePendingTest : Plan → ℕ → Arbiter → List (List ℕ) → Bool
+onePendingTest plan i arb xss =
     every (
-    leb 1 (t .f) ∷ leb (t .f) 64 ∷ leb 1 m
-    ∷ eqb (slotsOf (ownBy t) (t .f)) m
-    ∷ eqb (scaledOf (ownBy t) (t .f) m) L
+    fineTest (planCheck plan) ∷ ltb (arb .position) (plan .f)
+    ∷ allBelow (length xss) (λ d. eqb (length (getD xss d [])) (plan .n))
+    ∷ allBelow (length xss) (λ d. eqb (pendingOf plan i arb xss d) 1)
     ∷ []
     )
 
--- k is 1 to 255, and the wait is what `frame` works out
-abbrev waitTest : ℕ → ℕ → ℕ → ℕ → ℕ → Bool
-waitTest f m L k slots = every (leb 1 k ∷ leb k mostWaiting ∷ eqb (waitOf f m L k) slots ∷ [])
-
 test : Question → Bool
-test (figure t m L) = figureTest t m L
-test (waiting t k slots) =
-    let m = slotsOf (ownBy t) (t .f) in
-    let L = scaledOf (ownBy t) (t .f) m in
-    pick (figureTest t m L) (waitTest (t .f) m L k slots) false
+test (figure t m L) = scheduleTest t m L
+test (waiting t k slots) = scheduleWaitTest t k slots
+test (defaultWait t slots) = scheduleWaitTest t defaultWaiting slots
+test (refusedFigure t c number) = refusedTest (figureCheck (schedulePlan little t) c) number
+test (refusedWait t c k number) = refusedTest (waitCheck (schedulePlan little t) c k) number
 test (accepted t client) = pick (fineTest (planCheck (schedulePlan client t))) (okTest client (ownBy t) (t .f)) false
 test (late t client s j) =
     pick (fineTest (planCheck (schedulePlan client t))) (lateTest client (ownBy t) (t .f) s j) false
 test (found f n client table) =
     pick (fineTest (searchCheck (searchPlan f n client))) (bestTest (searchPlan f n client) table) false
 test (none f n client) = pick (fineTest (searchCheck (searchPlan f n client))) (noneTest (searchPlan f n client)) false
+test (refusedSearch f n client number) = refusedTest (searchCheck (searchPlan f n client)) number
+test (searchable f n client) = fineTest (searchCheck (searchPlan f n client))
 test (steps plan arb xs goes) = stepTest (stepOf plan arb xs) goes
+test (onePending plan i arb xss served) =
+    pick (onePendingTest plan i arb xss) (eqb (servedOf plan i arb xss) served) false
 
 -- ---- what it says
 
-record Figured (t : Schedule) (m L : ℕ) : Type 0 where
+record Scheduled (t : Schedule) (m L : ℕ) : Type 0 where
   f-low : 1 ≤ t .f
   f-high : t .f ≤ 64
-  m-low : 1 ≤ m
-  slots : slotsOf (ownBy t) (t .f) ≡ m
-  scaled : scaledOf (ownBy t) (t .f) m ≡ L
+  figures : Figured (ownBy t) (t .f) m L
 
-figured : (t : Schedule) (m L : ℕ) → figureTest t m L ≡ true → Figured t m L
-figured t m L h =
+scheduled : (t : Schedule) (m L : ℕ) → scheduleTest t m L ≡ true → Scheduled t m L
+scheduled t m L h =
     let a = both-true (leb 1 (t .f)) _ h in
     let b = both-true (leb (t .f) 64) _ (a .1) in
-    let c = both-true (leb 1 m) _ (b .1) in
-    let d = both-true (eqb (slotsOf (ownBy t) (t .f)) m) _ (c .1) in
-    let e = both-true (eqb (scaledOf (ownBy t) (t .f) m) L) true (d .1) in
+    let c = both-true (figureTest (ownBy t) (t .f) m L) true (b .1) in
     record {
       f-low = leb-true 1 (t .f) (a .0);
       f-high = leb-true (t .f) 64 (b .0);
-      m-low = leb-true 1 m (c .0);
-      slots = eqb-true (slotsOf (ownBy t) (t .f)) m (d .0);
-      scaled = eqb-true (scaledOf (ownBy t) (t .f) m) L (e .0);
+      figures = figured (ownBy t) (t .f) m L (c .0);
     }
 
 -- ---- so the answer is right
 
-module _ (t : Schedule) (m L : ℕ) (facts : Figured t m L) where
+-- an answer that is allowed is the only one, where any two that are allowed are equal
+pub only-answer : {A : Type 0} (Is : A → Type 0) → ((r r′ : A) → Is r → Is r′ → r ≡ r′) → (r : A) → Is r
+    → Answered Is (λ x. x ≡ r)
+only-answer Is once r is = record { answer = r; is = is; only = λ x allowed. once x r allowed is }
+
+module _ (t : Schedule) (m L : ℕ) (facts : Scheduled t m L) where
   plan : Plan
   plan = schedulePlan little t
 
-  own : ownOf plan 1 ≡ ownBy t
+  checked : Checked plan
   unfolding plan
-  own = own-schedule little t (facts .f-low)
-
-  its-figure : Figure
-  its-figure = record { slots = m; scaled = L }
-
-  asked : Asked plan 1
-  unfolding plan schedulePlan
-  asked =
+  checked =
       let ok : Required little = record { p-low = omega arith; p-high = omega arith; b-low = omega arith } in
-      record {
-        checked = schedule-checked little t ok (facts .f-low) (facts .f-high);
-        low = omega arith;
-        high = omega arith;
-        owns = rw (own, facts .slots) (facts .m-low);
-      }
-
-  scaled-worked : scaledOf (ownOf plan 1) (t .f) (slotsOf (ownOf plan 1) (t .f)) ≡ L
-  scaled-worked = rw (own, facts .slots) (facts .scaled)
-
-  figure-is : IsFigure (ownOf plan 1) (t .f) its-figure
-  unfolding plan schedulePlan its-figure
-  figure-is =
-      record {
-        slots = rw own (sym (facts .slots));
-        scaled = rw scaled-worked at (scaled-is (frame-of plan 1 (facts .f-low)));
-      }
+      schedule-checked little t ok (facts .f-low) (facts .f-high)
 
   figure-right : Right (figure t m L)
-  unfolding plan schedulePlan its-figure
+  unfolding plan schedulePlan
   figure-right =
-      let allowed = figures-given plan 1 its-figure (figure-pass plan 1 asked) figure-is in
+      let same = own-schedule little t (facts .f-low) in
+      let allowed = figure-allowed plan 1 checked (omega arith) (omega arith) (ownBy t) same m L (facts .figures) in
+      let its : FigureAnswer = figures.Given (record { slots = m; scaled = L }) in
       record {
-        answer = figures.Given its-figure;
+        answer = its;
         is = allowed;
         only = λ r is.
-            let e = figures-once plan 1 r (figures.Given its-figure) is allowed in
-            (ap figuresNumber e, ap (λ (x : FigureAnswer). figureIn x .slots) e, ap (λ (x : FigureAnswer). figureIn x .scaled) e);
+            let e = figures-once plan 1 r its is allowed in (
+              ap figuresNumber e,
+              ap (λ (x : FigureAnswer). figureIn x .slots) e,
+              ap (λ (x : FigureAnswer). figureIn x .scaled) e,
+            );
       }
 
   wait-right : (k slots : ℕ) → waitTest (t .f) m L k slots ≡ true → Right (waiting t k slots)
-  unfolding plan schedulePlan its-figure
+  unfolding plan schedulePlan
   wait-right k slots h =
-      let a = both-true (leb 1 k) _ h in
-      let b = both-true (leb k mostWaiting) _ (a .1) in
-      let c = both-true (eqb (waitOf (t .f) m L k) slots) true (b .1) in
-      let range = range-pass k mostWaiting refusal.waiting (leb-true 1 k (a .0)) (leb-true k mostWaiting (b .0)) in
-      let least = rw (eqb-true (waitOf (t .f) m L k) slots (c .0)) at (wait-is (t .f) m L k (facts .m-low)) in
-      let allowed = waits-given plan 1 k slots its-figure (figure-pass plan 1 asked) range figure-is least in
+      let same = own-schedule little t (facts .f-low) in
+      let own = ownBy t in
+      let allowed = wait-allowed plan 1 checked (omega arith) (omega arith) own same m L (facts .figures) k slots h in
       record {
         answer = wait.Given slots;
         is = allowed;
         only = λ r is. let e = waits-once plan 1 k r (wait.Given slots) is allowed in (ap waitNumber e, ap waitIn e);
       }
+
+schedule-wait-right : (t : Schedule) (k slots : ℕ) → scheduleWaitTest t k slots ≡ true → Right (waiting t k slots)
+schedule-wait-right t k slots h =
+    let m = slotsOf (ownBy t) (t .f) in
+    let L = scaledOf (ownBy t) (t .f) m in
+    let g = both-true (scheduleTest t m L) (waitTest (t .f) m L k slots) h in
+    wait-right t m L (scheduled t m L (g .0)) k slots (g .1)
 
 -- ---- judging a schedule, and the search
 
@@ -241,9 +234,8 @@ module _ (t : Schedule) (client : Client) (tested : fineTest (planCheck (schedul
       let first : i ≡ 0 = omega arith in
       rw (first, get-padded (λ j. client) 1 8 noClient 0 (omega arith), own-schedule client t f-low) h
 
-  -- an answer that is allowed is the only one
   judged-right : (r : JudgeAnswer) → IsJudged judged-plan r → Answered (IsJudged judged-plan) (λ x. x ≡ r)
-  judged-right r is = record { answer = r; is = is; only = λ x allowed. judged-once judged-plan x r allowed is }
+  judged-right = only-answer (IsJudged judged-plan) (judged-once judged-plan)
 
   accepted-right : okTest client (ownBy t) (t .f) ≡ true → Right (accepted t client)
   unfolding judged-plan schedulePlan
@@ -305,14 +297,61 @@ module _ (f n : ℕ) (client : Client) (facts : fineTest (searchCheck (searchPla
       by finding.None owners x = refl
       by (finding.Refused k) owners x = refused-fine (searchCheck searched) k (x .0) searched-fine
 
+module _ (f n : ℕ) (client : Client) (number : ℕ)
+    (refused : RefusedBy (searchCheck (searchPlan f n client)) number) where
+  refused-search-right : Right (refusedSearch f n client number)
+  refused-search-right =
+      record {
+        answer = record { answer = finding.Refused number; owners = replicate 64 0 };
+        is = (refused, refl);
+        only = λ r is. by (r .answer) (r .owners) is;
+      }
+    where
+      by : (a : SearchAnswer) (owners : List ℕ) → SearchedAs (searchPlan f n client) a owners
+          → (a ≡ finding.Refused number) × (owners ≡ replicate 64 0)
+      by finding.Found owners x = refused-fine (searchCheck (searchPlan f n client)) number refused (x .0)
+      by finding.None owners x = refused-fine (searchCheck (searchPlan f n client)) number refused (x .0)
+      by (finding.Refused k) owners x =
+          let o = searchCheck (searchPlan f n client) in
+          (ap finding.Refused (refused-number o k (x .0) ∙ sym (refused-number o number refused)), x .1)
+
+-- ---- a run
+
+one-pending-tested : (plan : Plan) (i : ℕ) (arb : Arbiter) (xss : List (List ℕ))
+    → onePendingTest plan i arb xss ≡ true → OnePending plan i arb xss
+one-pending-tested plan i arb xss h =
+    let a = both-true (fineTest (planCheck plan)) _ h in
+    let b = both-true (ltb (arb .position) (plan .f)) _ (a .1) in
+    let c = both-true (allBelow (length xss) (λ d. eqb (length (getD xss d [])) (plan .n))) _ (b .1) in
+    let d = both-true (allBelow (length xss) (λ e. eqb (pendingOf plan i arb xss e) 1)) true (c .1) in
+    let one : (e : ℕ) → e < length xss → pendingOf plan i arb xss e ≡ 1 =
+    λ e l. eqb-true (pendingOf plan i arb xss e) 1 (each-below (length xss) _ (d .0) e l) in
+    record {
+      runs =
+          record {
+            checked = fine-tested (planCheck plan) (a .0);
+            position = ltb-true (arb .position) (plan .f) (b .0);
+            lists = λ e l. eqb-true (length (getD xss e [])) (plan .n) (each-below (length xss) _ (c .0) e l);
+          };
+      one = one;
+      always = record { fits = omega arith; each = λ e l. rw zero-add (rw (one e l) (omega arith)) };
+    }
+
+-- ---- each question
+
 right : (q : Question) → test q ≡ true → Right q
 unfolding test
-right (figure t m L) h = figure-right t m L (figured t m L h)
-right (waiting t k slots) h =
-    let m = slotsOf (ownBy t) (t .f) in
-    let L = scaledOf (ownBy t) (t .f) m in
-    let g = both-true (figureTest t m L) (waitTest (t .f) m L k slots) h in
-    wait-right t m L (figured t m L (g .0)) k slots (g .1)
+right (figure t m L) h = figure-right t m L (scheduled t m L h)
+right (waiting t k slots) h = schedule-wait-right t k slots h
+right (defaultWait t slots) h = schedule-wait-right t defaultWaiting slots h
+right (refusedFigure t c number) h =
+    let plan = schedulePlan little t in
+    let refused = refused-tested (figureCheck plan c) number h in
+    only-answer (IsFigures plan c) (figures-once plan c) (figures.Refused number) (figure-refusal plan c number refused)
+right (refusedWait t c k number) h =
+    let plan = schedulePlan little t in
+    let refused = refused-tested (waitCheck plan c k) number h in
+    only-answer (IsWaitFor plan c k) (waits-once plan c k) (wait.Refused number) (wait-refusal plan c k number refused)
 right (accepted t client) h =
     let g = both-true (fineTest (planCheck (schedulePlan client t))) (okTest client (ownBy t) (t .f)) h in
     accepted-right t client (g .0) (g .1)
@@ -325,8 +364,14 @@ right (found f n client table) h =
 right (none f n client) h =
     let g = both-true (fineTest (searchCheck (searchPlan f n client))) (noneTest (searchPlan f n client)) h in
     none-right f n client (g .0) (g .1)
+right (refusedSearch f n client number) h =
+    refused-search-right f n client number (refused-tested (searchCheck (searchPlan f n client)) number h)
+right (searchable f n client) h = fine-tested (searchCheck (searchPlan f n client)) h
 right (steps plan arb xs goes) h =
     record { answer = stepOf plan arb xs; is = refl; only = λ r is. is ∙ step-tested (stepOf plan arb xs) goes h }
+right (onePending plan i arb xss served) h =
+    let g = both-true (onePendingTest plan i arb xss) (eqb (servedOf plan i arb xss) served) h in
+    (one-pending-tested plan i arb xss (g .0), eqb-true (servedOf plan i arb xss) served (g .1))
 
 -- ---- all of them
 
@@ -344,5 +389,5 @@ unfolding questions test ownBy scaledOf lackFrom largest lack within waitOf okTe
     acceptTest everyTable allBelow betterTest lexTest owned enough covers ownIn searchPlan searchCheck sizeCheck
     schedulePlan planCheck requirementsCheck ownersCheck clientCheckOf ownerCheckOf clientCheck ownerCheck rangeCheck
     firstOf firsts onto padded stepTest answerTest numbersTest stepOf stepCheck positionCheck arrivalsCheck advanced
-    servedBy lessOne ruleFor
+    servedBy lessOne ruleFor refusedTest figureCheck waitCheck askedCheck recordAfter totalOf
 bench = all-right questions refl

@@ -6,4 +6,6 @@ pub mod Accepted
 pub mod Demand3
 pub mod Worked
 pub mod Tests
+pub mod Figured
 pub mod Bench
+pub mod Texts

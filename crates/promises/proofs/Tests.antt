@@ -1,5 +1,5 @@
--- Tests that compute: whether a client is ok, a table accepted, or the best of all, and whether two steps give the
--- same. Each says what its definition says, so that the examples are settled by working them out.
+-- Tests that compute: what a check finds, whether a client is ok, a table accepted, or the best of all, and whether two
+-- steps give the same. Each says what its definition says, so that the examples are settled by working them out.
 -- Assumes nothing.
 use mathlib.Core.Path.{_≡_, refl, sym, ap, _∙_}
 use mathlib.Core.Bool.{Bool, true, false, not}
@@ -12,7 +12,7 @@ use lib.Dec.{leb, ltb, eqb}
 use lib.ListN.{length, getD, List·getD-eq-default}
 use borrow.Author.Tests.{leb-true, ltb-true, eqb-true, not-true}
 use Rattle.frame.specs.Frame.{slotsOf, Frame}
-use Rattle.records.specs.First.{pick}
+use Rattle.records.specs.First.{pick, RefusedBy}
 use Rattle.records.specs.declared.Outcome.{Outcome}
 use Rattle.records.specs.declared.Outcome.the-variants.{Fine, Refused}
 use Rattle.records.proofs.Checks.{false-true, both-true, last-or-below}
@@ -36,7 +36,7 @@ unfoldable pub allBelow : ℕ → (ℕ → Bool) → Bool
 allBelow zero P = true
 allBelow (suc n) P = pick (allBelow n P) (P n) false
 
-each-below : (n : ℕ) (P : ℕ → Bool) → allBelow n P ≡ true → (i : ℕ) → i < n → P i ≡ true
+pub each-below : (n : ℕ) (P : ℕ → Bool) → allBelow n P ≡ true → (i : ℕ) → i < n → P i ≡ true
 unfolding allBelow
 each-below zero P h i l = absurd (omega arith)
 each-below (suc n) P h i l =
@@ -57,6 +57,16 @@ pub fine-tested : (o : Outcome) → fineTest o ≡ true → o ≡ Fine
 unfolding fineTest
 fine-tested Fine h = refl
 fine-tested (Refused k offset) h = false-true h
+
+-- it is refused with this number
+unfoldable pub refusedTest : Outcome → ℕ → Bool
+refusedTest Fine number = false
+refusedTest (Refused k offset) number = eqb number k
+
+pub refused-tested : (o : Outcome) (number : ℕ) → refusedTest o number ≡ true → RefusedBy o number
+unfolding refusedTest
+refused-tested Fine number h = false-true h
+refused-tested (Refused k offset) number h = eqb-true number k h
 
 -- ---- a client
 

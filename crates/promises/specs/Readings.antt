@@ -80,6 +80,11 @@ examples =
     ∷ refuses (9 ∷ []) 3 0
     ∷ refuses (head ++ (3 ∷ [])) 3 3
     ∷ refuses (head ++ client ++ (16 ∷ [])) 2 13
+    -- "Kinds 0, 4 to 8 and 10 to 255 are reserved": their ends
+    ∷ refuses (0 ∷ []) 2 0
+    ∷ refuses (head ++ (8 ∷ [])) 2 3
+    ∷ refuses (head ++ client ++ row ++ (10 ∷ [])) 2 22
+    ∷ refuses (head ++ client ++ row ++ (255 ∷ [])) 2 22
     -- 4: last, at the first byte too many
     ∷ refuses (head ++ client ++ row ++ (9 ∷ 9 ∷ [])) 4 23
     -- 5 before 6
