@@ -1,22 +1,22 @@
 -- The bench examples are right: a test of each is computed, and says that the answer is one that the contract allows;
 -- and it allows no other. What a refusal or a run is asked for is computed in the same way.
 -- Assumes nothing.
-use mathlib.Core.Path.{_≡_, refl, sym, ap, _∙_, fun-ext}
+use mathlib.Core.Path.{_≡_, refl, sym, _∙_, fun-ext}
 use mathlib.Core.Bool.{Bool, true, false}
-use mathlib.Core.List.{List, [], _∷_, _++_}
+use mathlib.Core.List.{List, [], _∷_}
 use Prim.Native.Nat.{ℕ, _+_, _-_, _%_, _≤_, _<_}
 use native.Mathlib.Nat.{mod-lt, zero-add}
 use native.Mathlib.Omega.{arith}
 use lib.Dec.{eqb, leb, ltb}
-use lib.ListN.{length, getD, take, replicate}
+use lib.ListN.{length, getD, replicate}
 use lib.Seq.{take-at, drop-at}
 use borrow.Author.Tests.{eqb-true, leb-true, ltb-true}
 use Rattle.frame.specs.Frame.{slotsOf, within, Frame}
 use Rattle.frame.specs.Largest.{largest, lack, lackFrom, scaledOf, waitOf}
-use Rattle.records.specs.First.{pick, rangeCheck, firstOf, RefusedBy}
+use Rattle.records.specs.First.{pick, among, rangeCheck, firstOf}
 use Rattle.records.specs.Pieces.{firsts, onto, padded}
 use Rattle.records.specs.declared.Outcome.the-variants.{Fine}
-use Rattle.records.proofs.Checks.{both-true, one-or-none, refused-number, refused-fine}
+use Rattle.records.proofs.Checks.{both-true, one-or-none}
 use Rattle.records.proofs.Lists.{get-padded}
 use Rattle.plan.specs.declared.Client.{Client}
 use Rattle.plan.specs.declared.Plan.{Plan}
@@ -24,30 +24,28 @@ use Rattle.plan.specs.Plan.{noClient, clientOf, ownerOf, ownIn, ownOf, defaultW
 use Rattle.plan.specs.Check.{clientCheck, ownerCheck, clientCheckOf, requirementsCheck, ownerCheckOf}
 use Rattle.plan.specs.Check.{ownersCheck, planCheck, askedCheck}
 use Rattle.plan.proofs.Laws.{Required, Checked, plan-fine}
-use Rattle.figures.specs.declared.FigureAnswer.{FigureAnswer}
 use Rattle.figures.specs.declared.FigureAnswer.the-variants as figures
 use Rattle.figures.specs.declared.WaitAnswer.the-variants as wait
 use Rattle.figures.specs.Check.{figureCheck, waitCheck}
-use Rattle.figures.specs.Figures.{IsFigures, figuresNumber, figureIn, IsWaitFor, waitNumber, waitIn}
+use Rattle.figures.specs.Figures.{IsFigures, IsWaitFor}
 use Rattle.figures.proofs.Laws.{frame-of}
-use Rattle.figures.proofs.Once.{figures-once, waits-once}
+use Rattle.figures.proofs.Entries.{figure-tight, wait-tight}
 use Rattle.judge.specs.declared.JudgeAnswer.{JudgeAnswer}
 use Rattle.judge.specs.declared.JudgeAnswer.the-variants as judged
 use Rattle.judge.specs.declared.Verdict.the-variants.{Late}
 use Rattle.judge.specs.Rules.{enough, covers, IsOk, IsLate}
 use Rattle.judge.specs.Judge.{IsJudged, acceptance}
 use Rattle.judge.proofs.Laws.{first-at, judged-none}
-use Rattle.judge.proofs.Once.{judged-once}
-use Rattle.explore.specs.Best.{owned, IsBest}
-use Rattle.explore.proofs.Order.{best-one}
-use Rattle.search.specs.declared.SearchAnswer.{SearchAnswer}
-use Rattle.search.specs.declared.SearchAnswer.the-variants as finding
-use Rattle.search.specs.Search.{searchCheck, sizeCheck, AcceptedIn, SearchedAs}
+use Rattle.judge.proofs.Entries.{judge-tight}
+use Rattle.explore.specs.Best.{owned}
+use Rattle.search.specs.declared.Searched.{Searched}
+use Rattle.search.specs.Search.{searchCheck, sizeCheck, IsSearched}
 use Rattle.search.proofs.Questions.{search-fine}
+use Rattle.search.proofs.Entries.{search-tight}
 use Rattle.arbiter.specs.declared.Arbiter.{Arbiter}
 use Rattle.arbiter.specs.Step.{ruleFor, servedBy, lessOne, advanced, positionCheck, arrivalsCheck, stepCheck, stepOf}
 use Rattle.arbiter.specs.Run.{recordAfter, totalOf, servedOf, pendingOf}
-use Rattle.promises.specs.Bench.{Schedule, among, schedulePlan, searchPlan, little, Question, figure, waiting}
+use Rattle.promises.specs.Bench.{Schedule, schedulePlan, searchPlan, little, Question, figure, waiting}
 use Rattle.promises.specs.Bench.{defaultWait, refusedFigure, refusedWait, accepted, late, found, none}
 use Rattle.promises.specs.Bench.{refusedSearch, searchable, steps, onePending, Answered, OnePending, Right}
 use Rattle.promises.specs.Bench.{AllRight, questions}
@@ -56,7 +54,6 @@ use Rattle.promises.proofs.Tests.{okTest, ok-tested, lateTest, late-tes
 use Rattle.promises.proofs.Tests.{betterTest, noneTest, none-tested, bestTest, best-tested, numbersTest}
 use Rattle.promises.proofs.Tests.{answerTest, stepTest, step-tested}
 use Rattle.promises.proofs.Figured.{every, figureTest, waitTest, Figured, figured, figure-allowed, wait-allowed}
-use Rattle.promises.proofs.Figured.{figure-refusal, wait-refusal}
 
 -- ---- a schedule as a plan
 
@@ -159,8 +156,8 @@ scheduled t m L h =
 
 -- an answer that is allowed is the only one, where any two that are allowed are equal
 pub only-answer : {A : Type 0} (Is : A → Type 0) → ((r r′ : A) → Is r → Is r′ → r ≡ r′) → (r : A) → Is r
-    → Answered Is (λ x. x ≡ r)
-only-answer Is once r is = record { answer = r; is = is; only = λ x allowed. once x r allowed is }
+    → Answered Is r
+only-answer Is once r is = record { is = is; only = λ x allowed. once x r allowed is }
 
 module _ (t : Schedule) (m L : ℕ) (facts : Scheduled t m L) where
   plan : Plan
@@ -177,17 +174,7 @@ module _ (t : Schedule) (m L : ℕ) (facts : Scheduled t m L) where
   figure-right =
       let same = own-schedule little t (facts .f-low) in
       let allowed = figure-allowed plan 1 checked (omega arith) (omega arith) (ownBy t) same m L (facts .figures) in
-      let its : FigureAnswer = figures.Given (record { slots = m; scaled = L }) in
-      record {
-        answer = its;
-        is = allowed;
-        only = λ r is.
-            let e = figures-once plan 1 r its is allowed in (
-              ap figuresNumber e,
-              ap (λ (x : FigureAnswer). figureIn x .slots) e,
-              ap (λ (x : FigureAnswer). figureIn x .scaled) e,
-            );
-      }
+      only-answer (IsFigures plan 1) (figure-tight .once plan 1) _ allowed
 
   wait-right : (k slots : ℕ) → waitTest (t .f) m L k slots ≡ true → Right (waiting t k slots)
   unfolding plan schedulePlan
@@ -195,11 +182,7 @@ module _ (t : Schedule) (m L : ℕ) (facts : Scheduled t m L) where
       let same = own-schedule little t (facts .f-low) in
       let own = ownBy t in
       let allowed = wait-allowed plan 1 checked (omega arith) (omega arith) own same m L (facts .figures) k slots h in
-      record {
-        answer = wait.Given slots;
-        is = allowed;
-        only = λ r is. let e = waits-once plan 1 k r (wait.Given slots) is allowed in (ap waitNumber e, ap waitIn e);
-      }
+      only-answer (IsWaitFor plan 1 k) (wait-tight .once plan (1, k)) _ allowed
 
 schedule-wait-right : (t : Schedule) (k slots : ℕ) → scheduleWaitTest t k slots ≡ true → Right (waiting t k slots)
 schedule-wait-right t k slots h =
@@ -234,8 +217,8 @@ module _ (t : Schedule) (client : Client) (tested : fineTest (planCheck (schedul
       let first : i ≡ 0 = omega arith in
       rw (first, get-padded (λ j. client) 1 8 noClient 0 (omega arith), own-schedule client t f-low) h
 
-  judged-right : (r : JudgeAnswer) → IsJudged judged-plan r → Answered (IsJudged judged-plan) (λ x. x ≡ r)
-  judged-right = only-answer (IsJudged judged-plan) (judged-once judged-plan)
+  judged-right : (r : JudgeAnswer) → IsJudged judged-plan r → Answered (IsJudged judged-plan) r
+  judged-right = only-answer (IsJudged judged-plan) (judge-tight .once judged-plan tt)
 
   accepted-right : okTest client (ownBy t) (t .f) ≡ true → Right (accepted t client)
   unfolding judged-plan schedulePlan
@@ -263,57 +246,20 @@ module _ (f n : ℕ) (client : Client) (facts : fineTest (searchCheck (searchPla
   unfolding searched
   searched-fine = fine-tested (searchCheck searched) facts
 
+  search-right : (r : Searched) → IsSearched searched r → Answered (IsSearched searched) r
+  search-right = only-answer (IsSearched searched) (search-tight .once searched tt)
+
   found-right : (table : List ℕ) → bestTest (searchPlan f n client) table ≡ true → Right (found f n client table)
   unfolding searched searchPlan
   found-right table h =
       let rest = replicate {A = ℕ} (64 - f) 0 in
+      let best = best-tested searched (search-fine searched searched-fine .bounds .f-low) table h in
       let front = take-at table rest f (best .table .long) in
-      record {
-        answer = record { answer = finding.Found; owners = table ++ rest };
-        is = (searched-fine, (rw front best, drop-at table rest f (best .table .long)));
-        only = λ r is. by (r .answer) (r .owners) is;
-      }
-    where
-      best : IsBest (AcceptedIn searched) f n table
-      best = best-tested searched (search-fine searched searched-fine .bounds .f-low) table h
-
-      by : (a : SearchAnswer) (owners : List ℕ) → SearchedAs searched a owners
-          → (a ≡ finding.Found) × (take f owners ≡ table)
-      by finding.Found owners x = (refl, best-one (AcceptedIn searched) f n _ table (x .1 .0) best)
-      by finding.None owners x = absurd (x .1 .0 table (best .table) (best .good))
-      by (finding.Refused k) owners x = refused-fine (searchCheck searched) k (x .0) searched-fine
+      search-right _ (searched-fine, (rw front best, drop-at table rest f (best .table .long)))
 
   none-right : noneTest (searchPlan f n client) ≡ true → Right (none f n client)
   unfolding searched searchPlan
-  none-right h =
-      record {
-        answer = record { answer = finding.None; owners = replicate 64 0 };
-        is = (searched-fine, (none-tested searched h, refl));
-        only = λ r is. by (r .answer) (r .owners) is;
-      }
-    where
-      by : (a : SearchAnswer) (owners : List ℕ) → SearchedAs searched a owners → a ≡ finding.None
-      by finding.Found owners x = absurd (none-tested searched h _ (x .1 .0 .table) (x .1 .0 .good))
-      by finding.None owners x = refl
-      by (finding.Refused k) owners x = refused-fine (searchCheck searched) k (x .0) searched-fine
-
-module _ (f n : ℕ) (client : Client) (number : ℕ)
-    (refused : RefusedBy (searchCheck (searchPlan f n client)) number) where
-  refused-search-right : Right (refusedSearch f n client number)
-  refused-search-right =
-      record {
-        answer = record { answer = finding.Refused number; owners = replicate 64 0 };
-        is = (refused, refl);
-        only = λ r is. by (r .answer) (r .owners) is;
-      }
-    where
-      by : (a : SearchAnswer) (owners : List ℕ) → SearchedAs (searchPlan f n client) a owners
-          → (a ≡ finding.Refused number) × (owners ≡ replicate 64 0)
-      by finding.Found owners x = refused-fine (searchCheck (searchPlan f n client)) number refused (x .0)
-      by finding.None owners x = refused-fine (searchCheck (searchPlan f n client)) number refused (x .0)
-      by (finding.Refused k) owners x =
-          let o = searchCheck (searchPlan f n client) in
-          (ap finding.Refused (refused-number o k (x .0) ∙ sym (refused-number o number refused)), x .1)
+  none-right h = search-right _ (searched-fine, (none-tested searched h, refl))
 
 -- ---- a run
 
@@ -347,11 +293,11 @@ right (defaultWait t slots) h = schedule-wait-right t defaultWaiting slots h
 right (refusedFigure t c number) h =
     let plan = schedulePlan little t in
     let refused = refused-tested (figureCheck plan c) number h in
-    only-answer (IsFigures plan c) (figures-once plan c) (figures.Refused number) (figure-refusal plan c number refused)
+    only-answer (IsFigures plan c) (figure-tight .once plan c) (figures.Refused number) refused
 right (refusedWait t c k number) h =
     let plan = schedulePlan little t in
     let refused = refused-tested (waitCheck plan c k) number h in
-    only-answer (IsWaitFor plan c k) (waits-once plan c k) (wait.Refused number) (wait-refusal plan c k number refused)
+    only-answer (IsWaitFor plan c k) (wait-tight .once plan (c, k)) (wait.Refused number) refused
 right (accepted t client) h =
     let g = both-true (fineTest (planCheck (schedulePlan client t))) (okTest client (ownBy t) (t .f)) h in
     accepted-right t client (g .0) (g .1)
@@ -365,10 +311,12 @@ right (none f n client) h =
     let g = both-true (fineTest (searchCheck (searchPlan f n client))) (noneTest (searchPlan f n client)) h in
     none-right f n client (g .0) (g .1)
 right (refusedSearch f n client number) h =
-    refused-search-right f n client number (refused-tested (searchCheck (searchPlan f n client)) number h)
+    let plan = searchPlan f n client in
+    only-answer (IsSearched plan) (search-tight .once plan tt) _ (refused-tested (searchCheck plan) number h, refl)
 right (searchable f n client) h = fine-tested (searchCheck (searchPlan f n client)) h
 right (steps plan arb xs goes) h =
-    record { answer = stepOf plan arb xs; is = refl; only = λ r is. is ∙ step-tested (stepOf plan arb xs) goes h }
+    let e = step-tested (stepOf plan arb xs) goes h in
+    record { is = sym e; only = λ r is. is ∙ e }
 right (onePending plan i arb xss served) h =
     let g = both-true (onePendingTest plan i arb xss) (eqb (servedOf plan i arb xss) served) h in
     (one-pending-tested plan i arb xss (g .0), eqb-true (servedOf plan i arb xss) served (g .1))

@@ -1,6 +1,5 @@
 -- A client's figures and waits, worked out: a test over its slots is computed, and says that they are those which the
--- contracts allow of client c of a plan that is checked; and which refusals these allow. What the contracts ask of an
--- answer is said here alone.
+-- contracts allow of client c of a plan that is checked.
 -- Assumes nothing.
 use mathlib.Core.Path.{_≡_, sym}
 use mathlib.Core.Bool.{Bool, true, false}
@@ -12,19 +11,19 @@ use Rattle.frame.specs.Frame.{slotsOf}
 use Rattle.frame.specs.Largest.{scaledOf, waitOf}
 use Rattle.frame.proofs.Scaled.{scaled-is, wait-is}
 use Rattle.records.specs.Refusal as refusal
-use Rattle.records.specs.First.{pick, RefusedBy}
-use Rattle.records.proofs.Checks.{both-true, range-pass, refused-number, refused-fine}
+use Rattle.records.specs.First.{pick}
+use Rattle.records.proofs.Checks.{both-true, range-pass}
 use Rattle.plan.specs.declared.Plan.{Plan}
 use Rattle.plan.specs.Plan.{ownOf}
 use Rattle.plan.proofs.Laws.{Checked}
 use Rattle.figures.specs.declared.Figure.{Figure}
 use Rattle.figures.specs.declared.FigureAnswer.the-variants as figures
 use Rattle.figures.specs.declared.WaitAnswer.the-variants as wait
-use Rattle.figures.specs.Check.{figureCheck, mostWaiting, waitCheck}
+use Rattle.figures.specs.Check.{mostWaiting}
 use Rattle.figures.specs.Figures.{IsFigure, IsFigures, IsWaitFor}
 use Rattle.figures.proofs.Laws.{frame-of}
 use Rattle.figures.proofs.Questions.{Asked, figure-pass}
-use Rattle.figures.proofs.Answers.{figures-given, waits-given}
+use Rattle.figures.proofs.Answers.{waits-given}
 
 -- ---- the tests
 
@@ -81,7 +80,7 @@ module _ (plan : Plan) (c : ℕ) (checked : Checked plan) (low : 1 ≤ c) (high 
       }
 
   pub figure-allowed : IsFigures plan c (figures.Given itsFigure)
-  figure-allowed = figures-given plan c itsFigure (figure-pass plan c asked) figure-is
+  figure-allowed = (figure-pass plan c asked, figure-is)
 
   pub wait-allowed : (k slots : ℕ) → waitTest (plan .f) m L k slots ≡ true → IsWaitFor plan c k (wait.Given slots)
   wait-allowed k slots h =
@@ -90,22 +89,4 @@ module _ (plan : Plan) (c : ℕ) (checked : Checked plan) (low : 1 ≤ c) (high 
       let d = both-true (eqb (waitOf (plan .f) m L k) slots) true (b .1) in
       let range = range-pass k mostWaiting refusal.waiting (leb-true 1 k (a .0)) (leb-true k mostWaiting (b .0)) in
       let least = rw (eqb-true (waitOf (plan .f) m L k) slots (d .0)) at (wait-is (plan .f) m L k (facts .m-low)) in
-      waits-given plan c k slots itsFigure (figure-pass plan c asked) range figure-is least
-
--- ---- refusals
-
-pub figure-refusal : (plan : Plan) (c number : ℕ) → RefusedBy (figureCheck plan c) number
-    → IsFigures plan c (figures.Refused number)
-figure-refusal plan c number h =
-    record {
-      number = refused-number (figureCheck plan c) number h;
-      figure = refused-fine (figureCheck plan c) number h;
-    }
-
-pub wait-refusal : (plan : Plan) (c k number : ℕ) → RefusedBy (waitCheck plan c k) number
-    → IsWaitFor plan c k (wait.Refused number)
-wait-refusal plan c k number h =
-    record {
-      number = refused-number (waitCheck plan c k) number h;
-      wait = refused-fine (waitCheck plan c k) number h;
-    }
+      waits-given plan c itsFigure figure-allowed k slots range least

@@ -163,7 +163,7 @@ report-of =
     }
 
 -- "it writes", and nothing else
-pub report-told : Answered (IsReport reportStream) (λ text. text ≡ reportText)
+pub report-told : Answered (IsReport reportStream) reportText
 report-told = only-answer (IsReport reportStream) (report-once reportStream) reportText (rw report-read report-of)
 
 -- ---- the homing listing
@@ -176,5 +176,5 @@ homing-of =
     (record { wait = wait.Given 7; is = second-wait; whole = refl })
 
 -- "writes only number and default wait", and nothing else
-pub homing-told : Answered (IsHoming reportStream) (λ text. text ≡ homingText)
+pub homing-told : Answered (IsHoming reportStream) homingText
 homing-told = only-answer (IsHoming reportStream) (homing-once reportStream) homingText (rw report-read homing-of)

@@ -3,12 +3,11 @@
 -- And a run in which one request is pending. Numbers are written out, none by its name, so that a name with another
 -- number is refused. `bench` in proofs/Bench.antt proves them all.
 use mathlib.Core.Path.{_≡_}
-use mathlib.Core.Bool.{Bool, true, false}
-use mathlib.Core.List.{List, [], _∷_}
-use Prim.Native.Nat.{ℕ, _<_}
+use mathlib.Core.List.{List, [], _∷_, _++_}
+use Prim.Native.Nat.{ℕ, _-_, _<_}
 use lib.Dec.{eqb}
-use lib.ListN.{length, getD, take, replicate}
-use Rattle.records.specs.First.{pick}
+use lib.ListN.{length, getD, replicate}
+use Rattle.records.specs.First.{pick, among}
 use Rattle.records.specs.Pieces.{padded}
 use Rattle.records.specs.declared.Outcome.the-variants.{Fine}
 use Rattle.plan.specs.declared.Client.{Client}
@@ -16,7 +15,7 @@ use Rattle.plan.specs.declared.Plan.{Plan}
 use Rattle.plan.specs.Plan.{noClient, defaultWaiting}
 use Rattle.figures.specs.declared.FigureAnswer.the-variants as figures
 use Rattle.figures.specs.declared.WaitAnswer.the-variants as wait
-use Rattle.figures.specs.Figures.{figuresNumber, figureIn, IsFigures, waitNumber, waitIn, IsWaitFor}
+use Rattle.figures.specs.Figures.{IsFigures, IsWaitFor}
 use Rattle.judge.specs.declared.JudgeAnswer.the-variants as judged
 use Rattle.judge.specs.declared.Verdict.the-variants.{Late}
 use Rattle.judge.specs.Judge.{acceptance, IsJudged}
@@ -32,11 +31,6 @@ use Rattle.arbiter.specs.Run.{Runs, servedOf, pendingOf, AlwaysPendingOf}
 pub record Schedule : Type 0 where
   pub f : ℕ
   pub slots : List ℕ
-
--- x stands in the list
-abbrev pub among : ℕ → List ℕ → Bool
-among x [] = false
-among x (y ∷ ys) = pick (eqb x y) true (among x ys)
 
 -- the schedule as the plan of its client, which requires this much
 unfoldable pub schedulePlan : Client → Schedule → Plan
@@ -90,11 +84,10 @@ pub data Question : Type 0 where
   -- it is served
   onePending : Plan → (i : ℕ) → Arbiter → List (List ℕ) → (served : ℕ) → Question
 
--- the contract Is allows an answer, and every answer that it allows is as This says
-pub record Answered {A : Type 0} (Is This : A → Type 0) : Type 0 where
-  pub answer : A
+-- the contract Is allows this answer, and no other
+pub record Answered {A : Type 0} (Is : A → Type 0) (answer : A) : Type 0 where
   pub is : Is answer
-  pub only : (r : A) → Is r → This r
+  pub only : (r : A) → Is r → r ≡ answer
 
 -- demand 3, "a run of consecutive slots in each of which a drive has a request pending": client i + 1 has one and no
 -- more, and that is a run in which it has a request pending
@@ -106,27 +99,24 @@ pub record OnePending (plan : Plan) (i : ℕ) (arb : Arbiter) (xss : List (List 
 -- the answer is this one; it is a refusal in those questions alone that say so, and in steps
 abbrev pub Right : Question → Type 0
 Right (figure t m L) =
-    Answered (IsFigures (schedulePlan little t) 1)
-    (λ r. (figuresNumber r ≡ 0) × (figureIn r .slots ≡ m) × (figureIn r .scaled ≡ L))
-Right (waiting t k slots) =
-    Answered (IsWaitFor (schedulePlan little t) 1 k) (λ r. (waitNumber r ≡ 0) × (waitIn r ≡ slots))
-Right (defaultWait t slots) =
-    Answered (IsWaitFor (schedulePlan little t) 1 defaultWaiting) (λ r. (waitNumber r ≡ 0) × (waitIn r ≡ slots))
-Right (refusedFigure t c number) = Answered (IsFigures (schedulePlan little t) c) (λ r. r ≡ figures.Refused number)
-Right (refusedWait t c k number) = Answered (IsWaitFor (schedulePlan little t) c k) (λ r. r ≡ wait.Refused number)
-Right (accepted t client) = Answered (IsJudged (schedulePlan client t)) (λ r. r ≡ judged.Given acceptance)
+    Answered (IsFigures (schedulePlan little t) 1) (figures.Given (record { slots = m; scaled = L }))
+Right (waiting t k slots) = Answered (IsWaitFor (schedulePlan little t) 1 k) (wait.Given slots)
+Right (defaultWait t slots) = Answered (IsWaitFor (schedulePlan little t) 1 defaultWaiting) (wait.Given slots)
+Right (refusedFigure t c number) = Answered (IsFigures (schedulePlan little t) c) (figures.Refused number)
+Right (refusedWait t c k number) = Answered (IsWaitFor (schedulePlan little t) c k) (wait.Refused number)
+Right (accepted t client) = Answered (IsJudged (schedulePlan client t)) (judged.Given acceptance)
 Right (late t client s j) =
     Answered (IsJudged (schedulePlan client t))
-    (λ r. r ≡ judged.Given (record { client = 1; verdict = Late; start = s; length = j }))
+    (judged.Given (record { client = 1; verdict = Late; start = s; length = j }))
 Right (found f n client table) =
     Answered (IsSearched (searchPlan f n client))
-    (λ r. (r .answer ≡ finding.Found) × (take f (r .owners) ≡ table))
-Right (none f n client) = Answered (IsSearched (searchPlan f n client)) (λ r. r .answer ≡ finding.None)
+    (record { answer = finding.Found; owners = table ++ replicate (64 - f) 0 })
+Right (none f n client) =
+    Answered (IsSearched (searchPlan f n client)) (record { answer = finding.None; owners = replicate 64 0 })
 Right (refusedSearch f n client number) =
-    Answered (IsSearched (searchPlan f n client))
-    (λ r. (r .answer ≡ finding.Refused number) × (r .owners ≡ replicate 64 0))
+    Answered (IsSearched (searchPlan f n client)) (record { answer = finding.Refused number; owners = replicate 64 0 })
 Right (searchable f n client) = searchCheck (searchPlan f n client) ≡ Fine
-Right (steps plan arb xs goes) = Answered (λ r. r ≡ stepOf plan arb xs) (λ r. r ≡ goes)
+Right (steps plan arb xs goes) = Answered (λ r. r ≡ stepOf plan arb xs) goes
 Right (onePending plan i arb xss served) = OnePending plan i arb xss × (servedOf plan i arb xss ≡ served)
 
 -- all of a list are right

@@ -1,4 +1,5 @@
 -- The definitions of `promises`: a file rests only on those before it.
+pub mod Entries
 pub mod Readings
 pub mod Bench
 pub mod Texts
