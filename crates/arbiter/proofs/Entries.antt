@@ -11,7 +11,7 @@ use borrow.Fn.World.{w₀}
 use borrow.Fn.Read.{ReadAt, no-know, r-top, r-last}
 use Rattle.records.specs.Said.{saidNumber}
 use Rattle.records.specs.Entry.{Tight, contract, Tied}
-use Rattle.records.proofs.Entry.{both, tight-fixed, tied}
+use Rattle.records.proofs.Entry.{both, tight-fixed, tie}
 use Rattle.arbiter.specs.declared.Served.{Served}
 use Rattle.arbiter.specs.declared.Stepped.{Stepped}
 use Rattle.arbiter.specs.Step.{stepOf, stepSaid}
@@ -37,10 +37,10 @@ pub step-tight : Tight stepEntry
 step-tight = tight-steps (λ s. s) (λ r. r .served) (λ s. refl)
 
 pub step-tied : Tied stepEntry (contract step.Pre step.Post)
-step-tied = tied (λ a. a .0) (λ a. (a .1 .0, a .1 .1 .0 .now)) (λ κs a. tt) (λ κs a r z h. h)
+step-tied = tie (λ a. a .0) (λ a. (a .1 .0, a .1 .1 .0 .now)) (λ r z. r) (λ κs a. tt) (λ κs a r z h. h)
 
 pub lending-tied : Tied stepEntry (contract step-lending.Pre step-lending.Post)
-lending-tied = tied (λ a. a .0) (λ a. (a .1 .0, a .1 .1 .0 .now)) (λ κs a. tt) (λ κs a r z h. h)
+lending-tied = tie (λ a. a .0) (λ a. (a .1 .0, a .1 .1 .0 .now)) (λ r z. r) (λ κs a. tt) (λ κs a r z h. h)
 
 pub in-place-tight : Tight inPlaceEntry
 in-place-tight = tight-steps (λ s. (s .served, s .next)) (λ r. r .0) (λ s. refl)
@@ -66,10 +66,5 @@ module _ (κs : Lfts 2) (a : Args step-in-place.signature κs) where
 
 pub in-place-tied : Tied inPlaceEntry (contract InPlacePre InPlacePost)
 in-place-tied =
-    record {
-      subject = λ a. a .0;
-      more = λ a. (a .1 .0 .now, a .1 .1 .0 .now);
-      reply = λ r z. (r, z .1 .0 .now);
-      asks = λ κs a. tt;
-      is = λ κs a r z h. both (h .0) (h .1);
-    }
+    tie (λ a. a .0) (λ a. (a .1 .0 .now, a .1 .1 .0 .now)) (λ r z. (r, z .1 .0 .now))
+    (λ κs a. tt) (λ κs a r z h. both (h .0) (h .1))

@@ -2,4 +2,3 @@
 -- Assumes nothing.
 pub mod Laws
 pub mod Entries
-

@@ -27,6 +27,10 @@ use Rattle.capi.specs.Calls.{ToldWrite, emptied, ToldSearch, recordIn, r
 abbrev pub readThen : {X : Type 0} → (Plan → X → Outcome) → List ℕ → X → Outcome
 readThen check s x = orElse (readOf s .outcome) (check (readOf s .plan) x)
 
+-- reading's numbers, then these: what reading has refused no check finds again
+abbrev pub readAnd : List ℕ → List ℕ
+readAnd numbers = readNumbers ++ numbers
+
 -- a function that is handed a stream
 abbrev pub reads : {X R : Type 0} → (List ℕ → X → R → Type 0) → (List ℕ → X → Outcome) → List ℕ → (R → ℕ)
     → (X → (number offset : ℕ) → R → Type 0) → Entry
@@ -51,56 +55,52 @@ tells Is check numbers say zero values =
     (λ r. r .0) (λ x k offset r. r ≡ (k, values zero))
 
 -- `gwelathur_read`: the offset is lent
-abbrev pub readEntry : Entry
-readEntry =
+abbrev pub cReadEntry : Entry
+cReadEntry =
     reads {R = ℕ × ℕ} (λ s (x : Unit {0}) r. ToldRead s (r .0) (r .1)) (λ s x. readCheck s) readNumbers (λ r. r .0)
     (λ x k offset r. r ≡ (k, offset))
 
--- reading's numbers, and those of figures
-abbrev pub figureNumbers : List ℕ
-figureNumbers = readNumbers ++ (13 ∷ 14 ∷ [])
-
 -- `gwelathur_figures`
-abbrev pub figuresEntry : Entry
-figuresEntry = tells IsFigures figureCheck figureNumbers figureSaid noFigure figureValues
+abbrev pub cFiguresEntry : Entry
+cFiguresEntry = tells IsFigures figureCheck (readAnd (13 ∷ 14 ∷ [])) figureSaid noFigure figureValues
 
 -- `gwelathur_wait`
-abbrev pub waitEntry : Entry
-waitEntry =
+abbrev pub cWaitEntry : Entry
+cWaitEntry =
     tells (λ plan (x : ℕ × ℕ). IsWaitFor plan (x .0) (x .1)) (λ plan x. waitCheck plan (x .0) (x .1))
-    (figureNumbers ++ (15 ∷ [])) waitSaid 0 waitValues
+    (readAnd (13 ∷ 14 ∷ 15 ∷ [])) waitSaid 0 waitValues
 
 -- `gwelathur_default_wait`
-abbrev pub defaultEntry : Entry
-defaultEntry =
-    tells (λ plan c. IsWaitFor plan c defaultWaiting) figureCheck figureNumbers waitSaid 0 waitValues
+abbrev pub cDefaultEntry : Entry
+cDefaultEntry =
+    tells (λ plan c. IsWaitFor plan c defaultWaiting) figureCheck (readAnd (13 ∷ 14 ∷ [])) waitSaid 0 waitValues
 
 -- `gwelathur_judge`
-abbrev pub judgeEntry : Entry
-judgeEntry =
+abbrev pub cJudgeEntry : Entry
+cJudgeEntry =
     tells (λ plan (x : Unit {0}). IsJudged plan) (λ plan x. planCheck plan) readNumbers judgeSaid acceptance
     judgementValues
 
 -- `gwelathur_verdict`
-abbrev pub verdictEntry : Entry
-verdictEntry = tells IsVerdictOf askedCheck (readNumbers ++ (13 ∷ [])) verdictSaid Ok verdictValues
+abbrev pub cVerdictEntry : Entry
+cVerdictEntry = tells IsVerdictOf askedCheck (readAnd (13 ∷ [])) verdictSaid Ok verdictValues
 
 -- `gwelathur_search` and `gwelathur_search_whole`: the length and the output are lent
-abbrev pub searchEntry : Entry
-searchEntry =
+abbrev pub cSearchEntry : Entry
+cSearchEntry =
     reads {R = ℕ × ℕ × List ℕ} (λ s out r. ToldSearch s out (r .0) (r .1) (r .2))
-    (readThen (λ plan (out : List ℕ). searchCheck (emptied plan))) (readNumbers ++ (16 ∷ [])) (λ r. r .0)
+    (readThen (λ plan (out : List ℕ). searchCheck (emptied plan))) (readAnd (16 ∷ [])) (λ r. r .0)
     (λ out k offset r. r ≡ (k, 0, out))
 
 -- `gwelathur_write`: the length and the output are lent
-abbrev pub writeEntry : Entry
-writeEntry =
+abbrev pub cWriteEntry : Entry
+cWriteEntry =
     reads {R = ℕ × ℕ × List ℕ} (λ s out r. ToldWrite s out (r .0) (r .1) (r .2)) (λ s out. copyCheck s (length out))
     copyNumbers (λ r. r .0) (λ out k offset r. r ≡ (k, 0, out))
 
 -- `gwelathur_step`, of a record in nine bytes and of arrivals: the record's and the answer's bytes are lent
-abbrev pub stepEntry : Entry
-stepEntry =
+abbrev pub cStepEntry : Entry
+cStepEntry =
     reads {R = ℕ × List ℕ × List ℕ} (λ s (x : List ℕ × List ℕ) r. ToldStep s (x .0) (x .1) (r .0) (r .1) (r .2))
-    (readThen (λ plan x. stepCheck plan (recordIn (x .0) .position) (length (x .1)))) (readNumbers ++ (17 ∷ 18 ∷ []))
+    (readThen (λ plan x. stepCheck plan (recordIn (x .0) .position) (length (x .1)))) (readAnd (17 ∷ 18 ∷ []))
     (λ r. r .0) (λ x k offset r. r ≡ (k, recordBytes (recordIn (x .0)), replicate 9 0))

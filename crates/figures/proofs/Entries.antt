@@ -5,7 +5,7 @@ use Prim.Native.Nat.{ℕ}
 use Rattle.records.specs.First.{numberOf}
 use Rattle.records.specs.Entry.{Tight, contract, Tied}
 use Rattle.records.proofs.Said.{answers-once, answers-number, answers-refused}
-use Rattle.records.proofs.Entry.{tight-says, tied}
+use Rattle.records.proofs.Entry.{tight-says, tie}
 use Rattle.plan.specs.Plan.{Same, defaultWaiting}
 use Rattle.figures.specs.declared.FigureAnswer.{FigureAnswer}
 use Rattle.figures.specs.declared.FigureAnswer.the-variants as figures
@@ -40,7 +40,7 @@ figure-tight =
     figure-gives refl figures-same
 
 pub figure-tied : Tied figureEntry (contract figure-of.Pre figure-of.Post)
-figure-tied = tied (λ a. a .0) (λ a. a .1 .0) (λ κs a. tt) (λ κs a r z h. h)
+figure-tied = tie (λ a. a .0) (λ a. a .1 .0) (λ r z. r) (λ κs a. tt) (λ κs a r z h. h)
 
 pub wait-tight : Tight waitEntry
 wait-tight =
@@ -48,7 +48,7 @@ wait-tight =
     (λ plan x. wait-gives plan (x .0) (x .1)) refl (λ plan other same x. waits-same plan other same (x .0) (x .1))
 
 pub wait-tied : Tied waitEntry (contract wait-for.Pre wait-for.Post)
-wait-tied = tied (λ a. a .0) (λ a. (a .1 .0, a .1 .1 .0)) (λ κs a. tt) (λ κs a r z h. h)
+wait-tied = tie (λ a. a .0) (λ a. (a .1 .0, a .1 .1 .0)) (λ r z. r) (λ κs a. tt) (λ κs a r z h. h)
 
 pub default-tight : Tight defaultEntry
 default-tight =
@@ -63,4 +63,4 @@ default-tight =
     }
 
 pub default-tied : Tied defaultEntry (contract default-wait.Pre default-wait.Post)
-default-tied = tied (λ a. a .0) (λ a. a .1 .0) (λ κs a. tt) (λ κs a r z h. h)
+default-tied = tie (λ a. a .0) (λ a. a .1 .0) (λ r z. r) (λ κs a. tt) (λ κs a r z h. h)

@@ -1,6 +1,7 @@
 -- The rows of `listing` hold, and are their entries' own contracts.
 -- Assumes nothing.
 use Rattle.records.specs.Entry.{Tight, contract, Tied}
+use Rattle.records.proofs.Entry.{tie}
 use Rattle.text.proofs.Entries.{tight-puts}
 use Rattle.listing.specs.Listing.{IsReport, IsHoming}
 use Rattle.listing.specs.Entries.{reportEntry, homingEntry}
@@ -13,23 +14,11 @@ report-tight = tight-puts IsReport report-once
 
 pub report-tied : Tied reportEntry (contract report.Pre report.Post)
 report-tied =
-    record {
-      subject = λ a. a .0 .now;
-      more = λ a. a .1 .0 .now;
-      reply = λ r z. (r, z .1 .0 .now);
-      asks = λ κs a. tt;
-      is = λ κs a r z h. h;
-    }
+    tie (λ a. a .0 .now) (λ a. a .1 .0 .now) (λ r z. (r, z .1 .0 .now)) (λ κs a. tt) (λ κs a r z h. h)
 
 pub homing-tight : Tight homingEntry
 homing-tight = tight-puts IsHoming homing-once
 
 pub homing-tied : Tied homingEntry (contract homing.Pre homing.Post)
 homing-tied =
-    record {
-      subject = λ a. a .0 .now;
-      more = λ a. a .1 .0 .now;
-      reply = λ r z. (r, z .1 .0 .now);
-      asks = λ κs a. tt;
-      is = λ κs a r z h. h;
-    }
+    tie (λ a. a .0 .now) (λ a. a .1 .0 .now) (λ r z. (r, z .1 .0 .now)) (λ κs a. tt) (λ κs a r z h. h)

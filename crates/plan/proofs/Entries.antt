@@ -1,9 +1,9 @@
 -- The rows of `plan` hold, and are their entries' own contracts.
 -- Assumes nothing.
-use mathlib.Core.Path.{_≡_, refl, sym, _∙_}
+use mathlib.Core.Path.{refl}
 use Rattle.records.specs.Entry.{Tight, contract, Tied}
-use Rattle.records.proofs.Entry.{tight-finds, tight-always, tied}
-use Rattle.plan.specs.Plan.{Same}
+use Rattle.records.proofs.Entry.{tight-finds, tight-equal, tie}
+use Rattle.plan.specs.Plan.{noClient, noPlan, Same, withTable}
 use Rattle.plan.specs.Check.{requirementsCheck, planCheck, askedCheck}
 use Rattle.plan.specs.Entries.{requirementsNumbers, planNumbers, askedNumbers}
 use Rattle.plan.specs.Entries.{requirementsEntry, checkEntry, askedEntry, noClientEntry, noPlanEntry, tableEntry}
@@ -24,7 +24,7 @@ requirements-tight =
     (λ plan other same more. requirements-same plan other (same .frame) (same .count) (same .clients))
 
 pub requirements-tied : Tied requirementsEntry (contract check-requirements.Pre check-requirements.Post)
-requirements-tied = tied (λ a. a .0) (λ a. tt) (λ κs a. tt) (λ κs a r z h. h)
+requirements-tied = tie (λ a. a .0) (λ a. tt) (λ r z. r) (λ κs a. tt) (λ κs a r z h. h)
 
 pub check-tight : Tight checkEntry
 check-tight =
@@ -32,28 +32,28 @@ check-tight =
     (λ plan more. plan-gives plan) refl (λ plan other same more. same-check plan other same)
 
 pub check-tied : Tied checkEntry (contract check.Pre check.Post)
-check-tied = tied (λ a. a .0) (λ a. tt) (λ κs a. tt) (λ κs a r z h. h)
+check-tied = tie (λ a. a .0) (λ a. tt) (λ r z. r) (λ κs a. tt) (λ κs a r z h. h)
 
 pub asked-tight : Tight askedEntry
 asked-tight = tight-finds Same askedCheck askedNumbers asked-unread asked-gives refl same-asked
 
 pub asked-tied : Tied askedEntry (contract check-asked.Pre check-asked.Post)
-asked-tied = tied (λ a. a .0) (λ a. a .1 .0) (λ κs a. tt) (λ κs a r z h. h)
+asked-tied = tie (λ a. a .0) (λ a. a .1 .0) (λ r z. r) (λ κs a. tt) (λ κs a r z h. h)
 
 pub no-client-tight : Tight noClientEntry
-no-client-tight = tight-always _ (λ none more r r′ is is′. is ∙ sym is′)
+no-client-tight = tight-equal (λ none more. noClient)
 
 pub no-client-tied : Tied noClientEntry (contract no-client.Pre no-client.Post)
-no-client-tied = tied (λ a. a) (λ a. tt) (λ κs a. tt) (λ κs a r z h. h)
+no-client-tied = tie (λ a. a) (λ a. tt) (λ r z. r) (λ κs a. tt) (λ κs a r z h. h)
 
 pub no-plan-tight : Tight noPlanEntry
-no-plan-tight = tight-always _ (λ none more r r′ is is′. is ∙ sym is′)
+no-plan-tight = tight-equal (λ none more. noPlan)
 
 pub no-plan-tied : Tied noPlanEntry (contract no-plan.Pre no-plan.Post)
-no-plan-tied = tied (λ a. a) (λ a. tt) (λ κs a. tt) (λ κs a r z h. h)
+no-plan-tied = tie (λ a. a) (λ a. tt) (λ r z. r) (λ κs a. tt) (λ κs a r z h. h)
 
 pub table-tight : Tight tableEntry
-table-tight = tight-always _ (λ plan owners r r′ is is′. is ∙ sym is′)
+table-tight = tight-equal withTable
 
 pub table-tied : Tied tableEntry (contract with-table.Pre with-table.Post)
-table-tied = tied (λ a. a .0) (λ a. a .1 .0) (λ κs a. tt) (λ κs a r z h. h)
+table-tied = tie (λ a. a .0) (λ a. a .1 .0) (λ r z. r) (λ κs a. tt) (λ κs a r z h. h)

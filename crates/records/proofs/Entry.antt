@@ -7,7 +7,7 @@ use mathlib.Core.List.{List}
 use Prim.Native.Nat.{ℕ}
 use Rattle.records.specs.First.{numberOf, offsetOf, among, Gives}
 use Rattle.records.specs.Said.{Said, refused, Answers}
-use Rattle.records.specs.Entry.{Entry, Tight, contract, Tied, says, finds, always}
+use Rattle.records.specs.Entry.{Entry, Tight, Contract, Tied, says, finds, always}
 use Rattle.records.specs.declared.Outcome.{Outcome}
 use Rattle.records.specs.declared.Outcome.the-variants.{Fine, Refused}
 use Rattle.records.proofs.Checks.{not-fine}
@@ -88,9 +88,14 @@ tight-always Is one =
       unread = λ u u′ e x r is. subst (λ v. Is v x r) e is;
     }
 
--- a tie where nothing is lent that changes, so that the result is the reply, and where the row has the contract's words
-pub tied : {e : Entry} {K A L : Type 0} {Pre : K → A → Type 0} {Post : K → A → e .Reply → L → Type 0}
-    (subject : A → e .Subject) (more : A → e .More) → ((κs : K) (a : A) → Pre κs a)
-    → ((κs : K) (a : A) (r : e .Reply) (z : L) → Post κs a r z → e .Is (subject a) (more a) r)
-    → Tied e (contract Pre Post)
-tied subject more asks is = record { subject = subject; more = more; reply = λ r z. r; asks = asks; is = is }
+-- such a row by an equation
+pub tight-equal : {U X R : Type 0} (value : U → X → R) → Tight (always (λ (u : U) (x : X) (r : R). r ≡ value u x))
+tight-equal value = tight-always _ (λ u x r r′ is is′. is ∙ sym is′)
+
+-- the tie of a row to a contract: what of the arguments is the subject and what is more, what of the result and of the
+-- arguments at the end is the reply; that nothing is asked, and that the row says what the contract says
+pub tie : {e : Entry} {c : Contract} (subject : c .Arguments → e .Subject) (more : c .Arguments → e .More)
+    (reply : c .Result → c .Last → e .Reply) → ((κs : c .Lifetimes) (a : c .Arguments) → c .Pre κs a)
+    → ((κs : c .Lifetimes) (a : c .Arguments) (r : c .Result) (z : c .Last) → c .Post κs a r z
+    → e .Is (subject a) (more a) (reply r z)) → Tied e c
+tie subject more reply asks is = record { subject = subject; more = more; reply = reply; asks = asks; is = is }

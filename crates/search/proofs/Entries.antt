@@ -3,7 +3,7 @@
 use mathlib.Core.Path.{refl}
 use Rattle.records.specs.Entry.{Tight, contract, Tied}
 use Rattle.records.proofs.Said.{beside-number, beside-refused}
-use Rattle.records.proofs.Entry.{tied}
+use Rattle.records.proofs.Entry.{tie}
 use Rattle.search.specs.declared.SearchAnswer.the-variants as finding
 use Rattle.search.specs.Search.{idlePlan, searchCheck, searchSaid}
 use Rattle.search.specs.Entries.{searchEntry}
@@ -26,4 +26,4 @@ search-tight =
     }
 
 pub search-tied : Tied searchEntry (contract search.Pre search.Post)
-search-tied = tied (λ a. idlePlan (a .0) (a .1 .0) (a .1 .1 .0)) (λ a. tt) (λ κs a. tt) (λ κs a r z h. h)
+search-tied = tie (λ a. idlePlan (a .0) (a .1 .0) (a .1 .1 .0)) (λ a. tt) (λ r z. r) (λ κs a. tt) (λ κs a r z h. h)

@@ -10,7 +10,7 @@ use Rattle.records.specs.Said.{saidNumber}
 use Rattle.records.specs.Entry.{Tight, contract, Tied}
 use Rattle.records.specs.declared.Outcome.{Outcome}
 use Rattle.records.specs.declared.Outcome.the-variants as outcome
-use Rattle.records.proofs.Entry.{both, offset-none, tight-fixed, tied}
+use Rattle.records.proofs.Entry.{both, offset-none, tight-fixed, tie}
 use Rattle.plan.specs.Plan.{Same}
 use Rattle.plan.specs.Check.{planCheck}
 use Rattle.plan.proofs.Refusals.{plan-gives, plan-unread}
@@ -56,7 +56,7 @@ read-tight =
     (λ s t e more r. subst (λ v. (r ≡ readOf v) × Rewritten v r) e)
 
 pub read-tied : Tied readEntry (contract read.Pre read.Post)
-read-tied = tied (λ a. a .0 .now) (λ a. tt) (λ κs a. tt) (λ κs a r z h. h)
+read-tied = tie (λ a. a .0 .now) (λ a. tt) (λ r z. r) (λ κs a. tt) (λ κs a r z h. h)
 
 pub write-tight : Tight writeEntry
 unfolding writtenOf bytesOf
@@ -68,13 +68,7 @@ write-tight =
 
 pub write-tied : Tied writeEntry (contract write.Pre write.Post)
 write-tied =
-    record {
-      subject = λ a. a .0;
-      more = λ a. a .1 .0 .now;
-      reply = λ r z. (r, z .1 .0 .now);
-      asks = λ κs a. tt;
-      is = λ κs a r z h. h;
-    }
+    tie (λ a. a .0) (λ a. a .1 .0 .now) (λ r z. (r, z .1 .0 .now)) (λ κs a. tt) (λ κs a r z h. h)
 
 pub rewritten-tight : Tight rewrittenEntry
 rewritten-tight =
@@ -83,13 +77,7 @@ rewritten-tight =
 
 pub rewritten-tied : Tied rewrittenEntry (contract rewritten.Pre rewritten.Post)
 rewritten-tied =
-    record {
-      subject = λ a. a .0 .now;
-      more = λ a. a .1 .0 .now;
-      reply = λ r z. (r, z .1 .0 .now);
-      asks = λ κs a. tt;
-      is = λ κs a r z h. h;
-    }
+    tie (λ a. a .0 .now) (λ a. a .1 .0 .now) (λ r z. (r, z .1 .0 .now)) (λ κs a. tt) (λ κs a r z h. h)
 
 pub reread-tight : Tight rereadEntry
 unfolding rereadOf
@@ -99,4 +87,4 @@ reread-tight =
     (λ plan other same more r is. is ∙ same-rereading plan other same)
 
 pub reread-tied : Tied rereadEntry (contract reread.Pre reread.Post)
-reread-tied = tied (λ a. a .0) (λ a. tt) (λ κs a. tt) (λ κs a r z h. h)
+reread-tied = tie (λ a. a .0) (λ a. tt) (λ r z. r) (λ κs a. tt) (λ κs a r z h. h)

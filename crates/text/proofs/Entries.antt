@@ -4,7 +4,7 @@ use mathlib.Core.Path.{_≡_, sym, _∙_}
 use mathlib.Core.List.{List}
 use Prim.Native.Nat.{ℕ}
 use Rattle.records.specs.Entry.{Tight, contract, Tied}
-use Rattle.records.proofs.Entry.{both, tight-always}
+use Rattle.records.proofs.Entry.{both, tight-always, tie}
 use Rattle.text.specs.Entries.{puts, putRefusalEntry}
 use Rattle.text.proofs.Laws.{puts-once}
 use Rattle.text.proofs.put_refusal.Reads as put-refusal
@@ -23,10 +23,4 @@ put-refusal-tight =
 
 pub put-refusal-tied : Tied putRefusalEntry (contract put-refusal.Pre put-refusal.Post)
 put-refusal-tied =
-    record {
-      subject = λ a. (a .1 .0, a .1 .1 .0);
-      more = λ a. a .0 .now;
-      reply = λ r z. (r, z .0 .now);
-      asks = λ κs a. tt;
-      is = λ κs a r z h. h;
-    }
+    tie (λ a. (a .1 .0, a .1 .1 .0)) (λ a. a .0 .now) (λ r z. (r, z .0 .now)) (λ κs a. tt) (λ κs a r z h. h)
