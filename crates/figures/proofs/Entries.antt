@@ -1,7 +1,6 @@
 -- The rows of `figures` hold, and are their entries' own contracts.
 -- Assumes nothing.
 use mathlib.Core.Path.{_≡_, refl, ap, _∙_}
-use Prim.Native.Nat.{ℕ}
 use Rattle.records.specs.First.{numberOf}
 use Rattle.records.specs.Entry.{Tight, contract, Tied}
 use Rattle.records.proofs.Said.{answers-once, answers-number, answers-refused}

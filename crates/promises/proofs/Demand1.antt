@@ -6,16 +6,18 @@
 -- Assumes nothing.
 use mathlib.Core.Path.{_≡_, refl, ap, _∙_}
 use mathlib.Core.List.{List}
-use Prim.Native.Nat.{ℕ, _≤_, _<_}
+use Prim.Native.Nat.{ℕ, _-_, _≤_, _<_}
 use native.Mathlib.Omega.{arith}
 use lib.ListN.{length, getD, take, drop}
 use lib.Seq.{take-at, drop-at}
 use Rattle.frame.specs.Frame.{slotsOf}
 use Rattle.records.specs.First.{offsetOf}
+use Rattle.records.specs.Said.{given}
 use Rattle.records.specs.Entry.{Tight, Shown, Tied}
 use Rattle.records.specs.Put.{Put}
 use Rattle.records.specs.declared.Outcome.{Outcome}
 use Rattle.records.specs.declared.Outcome.the-variants.{Fine, Refused}
+use Rattle.records.proofs.Said.{answers-given}
 use Rattle.records.proofs.Entry as row
 use Rattle.records.proofs.Puts.{put-length, put-front}
 use Rattle.records.proofs.Entries as records
@@ -29,7 +31,7 @@ use Rattle.text.proofs.Entries as text
 use Rattle.listing.proofs.Entries as listing
 use Rattle.capi.proofs.Entries as capi
 use Rattle.plan.specs.declared.Plan.{Plan}
-use Rattle.plan.specs.Plan.{ownOf}
+use Rattle.plan.specs.Plan.{clientOf, ownOf}
 use Rattle.plan.specs.Check.{planCheck, askedCheck}
 use Rattle.plan.proofs.Laws.{Checked, plan-fine, plan-pass, asked-fine, asked-pass}
 use Rattle.text.specs.Text.{bytes, refusalLine, Puts, Lendable}
@@ -37,12 +39,19 @@ use Rattle.stream.specs.Read.{readOf}
 use Rattle.stream.specs.Write.{streamOf, writeCheck, bytesBy, bytesOf}
 use Rattle.stream.proofs.Offsets.{read-within}
 use Rattle.figures.specs.Check.{figureCheck, waitCheck}
-use Rattle.figures.specs.Figures.{IsFigures, IsWaitFor}
+use Rattle.figures.specs.Figures.{IsFigure, figureSaid, IsFigures, Waits, waitSaid, IsWaitFor}
+use Rattle.figures.specs.declared.Figure.{Figure}
 use Rattle.figures.specs.declared.FigureAnswer.{FigureAnswer}
 use Rattle.figures.specs.declared.FigureAnswer.the-variants as figure
 use Rattle.figures.specs.declared.WaitAnswer.{WaitAnswer}
 use Rattle.figures.specs.declared.WaitAnswer.the-variants as wait
 use Rattle.figures.proofs.Questions.{Asked, figure-fine, figure-pass, Waited, wait-fine, wait-pass}
+use Rattle.judge.specs.declared.Judgement.{Judgement}
+use Rattle.judge.specs.declared.JudgeAnswer.{JudgeAnswer}
+use Rattle.judge.specs.declared.Verdict.{Verdict}
+use Rattle.judge.specs.declared.VerdictAnswer.{VerdictAnswer}
+use Rattle.judge.specs.Rules.{IsVerdict}
+use Rattle.judge.specs.Judge.{IsJudgement, judgeSaid, IsJudged, verdictSaid, IsVerdictOf}
 use Rattle.search.specs.Search.{searchCheck}
 use Rattle.search.proofs.Questions.{Searchable, search-fine, search-pass}
 use Rattle.arbiter.specs.declared.Arbiter.{Arbiter}
@@ -141,6 +150,23 @@ pub step-exactly : (plan : Plan) (position arrived : ℕ)
     → (stepCheck plan position arrived ≡ Fine → Steps plan position arrived)
     × (Steps plan position arrived → stepCheck plan position arrived ≡ Fine)
 step-exactly plan position arrived = (step-fine plan position arrived, step-pass plan position arrived)
+
+-- and where its check passes, a question's answer is given
+pub figure-given : (plan : Plan) (c : ℕ) (r : FigureAnswer) → IsFigures plan c r → figureCheck plan c ≡ Fine
+    → (x : Figure) × (figureSaid r ≡ given x) × IsFigure (ownOf plan c) (plan .f) x
+figure-given plan c r = answers-given _ _ (figureSaid r)
+
+pub wait-given : (plan : Plan) (c k : ℕ) (r : WaitAnswer) → IsWaitFor plan c k r → waitCheck plan c k ≡ Fine
+    → (x : ℕ) × (waitSaid r ≡ given x) × Waits (ownOf plan c) (plan .f) k x
+wait-given plan c k r = answers-given _ _ (waitSaid r)
+
+pub judge-given : (plan : Plan) (r : JudgeAnswer) → IsJudged plan r → planCheck plan ≡ Fine
+    → (x : Judgement) × (judgeSaid r ≡ given x) × IsJudgement plan 0 (plan .n) x
+judge-given plan r = answers-given _ _ (judgeSaid r)
+
+pub verdict-given : (plan : Plan) (c : ℕ) (r : VerdictAnswer) → IsVerdictOf plan c r → askedCheck plan c ≡ Fine
+    → (x : Verdict) × (verdictSaid r ≡ given x) × IsVerdict (clientOf plan (c - 1)) (ownOf plan c) (plan .f) x
+verdict-given plan c r = answers-given _ _ (verdictSaid r)
 
 -- ---- the arbiter's record
 

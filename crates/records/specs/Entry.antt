@@ -5,7 +5,7 @@ use mathlib.Core.Bool.{false}
 use mathlib.Core.List.{List, [], map}
 use Prim.Native.Nat.{ℕ}
 use Rattle.records.specs.First.{numberOf, among, Gives}
-use Rattle.records.specs.Said.{Said, Answers, saidNumber}
+use Rattle.records.specs.Said.{Said, saidNumber}
 use Rattle.records.specs.declared.Outcome.{Outcome}
 use Rattle.records.specs.declared.Outcome.the-variants.{Fine, Refused}
 

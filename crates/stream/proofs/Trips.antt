@@ -45,11 +45,6 @@ copied s out a r now e back h w =
     let t : streamOf (a .plan) ≡ s = back h in
     record { answer = w .answer ∙ rw (ok, t, q); bytes = w .bytes ∙ rw (ok, t, q) }
 
--- there is one such answer, and one such output after
-pub copied-once : (s out : List ℕ) (r r′ : WriteAnswer) (now now′ : List ℕ) → Copied s out r now → Copied s out r′ now′
-    → (r ≡ r′) × (now ≡ now′)
-copied-once s out r r′ now now′ h h′ = (h .answer ∙ sym (h′ .answer), h .bytes ∙ sym (h′ .bytes))
-
 -- ---- written, then read: r is what the write gave, now the bytes after
 
 written-fine : (o : Outcome) (n size : ℕ) → writtenBy o n ≡ written.Given size → (o ≡ outcome.Fine) × (size ≡ n)
