@@ -24,6 +24,7 @@ use Rattle.plan.specs.Plan.{noClient, clientOf, ownerOf, ownIn, ownOf, defaultW
 use Rattle.plan.specs.Check.{clientCheck, ownerCheck, clientCheckOf, requirementsCheck, ownerCheckOf}
 use Rattle.plan.specs.Check.{ownersCheck, planCheck, askedCheck}
 use Rattle.plan.proofs.Laws.{Required, Checked, plan-fine}
+use Rattle.figures.specs.declared.Figure.{Figure}
 use Rattle.figures.specs.declared.FigureAnswer.the-variants as figures
 use Rattle.figures.specs.declared.WaitAnswer.the-variants as wait
 use Rattle.figures.specs.Check.{figureCheck, waitCheck}
@@ -47,7 +48,7 @@ use Rattle.arbiter.specs.Step.{ruleFor, servedBy, lessOne, advanced, positionCh
 use Rattle.arbiter.specs.Run.{recordAfter, totalOf, servedOf, pendingOf}
 use Rattle.promises.specs.Bench.{Schedule, schedulePlan, searchPlan, little, Question, figure, waiting}
 use Rattle.promises.specs.Bench.{defaultWait, refusedFigure, refusedWait, accepted, late, found, none}
-use Rattle.promises.specs.Bench.{refusedSearch, searchable, steps, onePending, Answered, OnePending, Right}
+use Rattle.promises.specs.Bench.{refusedSearch, searchable, steps, onePending, Only, OnePending, Right}
 use Rattle.promises.specs.Bench.{AllRight, questions}
 use Rattle.promises.proofs.Tests.{allBelow, each-below, fineTest, fine-tested, refusedTest, refused-tested}
 use Rattle.promises.proofs.Tests.{okTest, ok-tested, lateTest, late-tested, acceptTest, everyTable, lexTest}
@@ -156,8 +157,8 @@ scheduled t m L h =
 
 -- an answer that is allowed is the only one, where any two that are allowed are equal
 pub only-answer : {A : Type 0} (Is : A → Type 0) → ((r r′ : A) → Is r → Is r′ → r ≡ r′) → (r : A) → Is r
-    → Answered Is r
-only-answer Is once r is = record { is = is; only = λ x allowed. once x r allowed is }
+    → Only Is r
+only-answer Is once r is = record { answer = r; is = is; only = λ x allowed. once x r allowed is }
 
 module _ (t : Schedule) (m L : ℕ) (facts : Scheduled t m L) where
   plan : Plan
@@ -174,7 +175,13 @@ module _ (t : Schedule) (m L : ℕ) (facts : Scheduled t m L) where
   figure-right =
       let same = own-schedule little t (facts .f-low) in
       let allowed = figure-allowed plan 1 checked (omega arith) (omega arith) (ownBy t) same m L (facts .figures) in
-      only-answer (IsFigures plan 1) (figure-tight .once plan 1) _ allowed
+      let its : Figure = record { slots = m; scaled = L } in
+      record {
+        answer = figures.Given its;
+        is = allowed;
+        only = λ r is.
+            record { figure = its; given = figure-tight .once plan 1 r _ is allowed; slots = refl; scaled = refl };
+      }
 
   wait-right : (k slots : ℕ) → waitTest (t .f) m L k slots ≡ true → Right (waiting t k slots)
   unfolding plan schedulePlan
@@ -217,7 +224,7 @@ module _ (t : Schedule) (client : Client) (tested : fineTest (planCheck (schedul
       let first : i ≡ 0 = omega arith in
       rw (first, get-padded (λ j. client) 1 8 noClient 0 (omega arith), own-schedule client t f-low) h
 
-  judged-right : (r : JudgeAnswer) → IsJudged judged-plan r → Answered (IsJudged judged-plan) r
+  judged-right : (r : JudgeAnswer) → IsJudged judged-plan r → Only (IsJudged judged-plan) r
   judged-right = only-answer (IsJudged judged-plan) (judge-tight .once judged-plan tt)
 
   accepted-right : okTest client (ownBy t) (t .f) ≡ true → Right (accepted t client)
@@ -246,7 +253,7 @@ module _ (f n : ℕ) (client : Client) (facts : fineTest (searchCheck (searchPla
   unfolding searched
   searched-fine = fine-tested (searchCheck searched) facts
 
-  search-right : (r : Searched) → IsSearched searched r → Answered (IsSearched searched) r
+  search-right : (r : Searched) → IsSearched searched r → Only (IsSearched searched) r
   search-right = only-answer (IsSearched searched) (search-tight .once searched tt)
 
   found-right : (table : List ℕ) → bestTest (searchPlan f n client) table ≡ true → Right (found f n client table)
@@ -316,7 +323,7 @@ right (refusedSearch f n client number) h =
 right (searchable f n client) h = fine-tested (searchCheck (searchPlan f n client)) h
 right (steps plan arb xs goes) h =
     let e = step-tested (stepOf plan arb xs) goes h in
-    record { is = sym e; only = λ r is. is ∙ e }
+    record { answer = goes; is = sym e; only = λ r is. is ∙ e }
 right (onePending plan i arb xss served) h =
     let g = both-true (onePendingTest plan i arb xss) (eqb (servedOf plan i arb xss) served) h in
     (one-pending-tested plan i arb xss (g .0), eqb-true (servedOf plan i arb xss) served (g .1))

@@ -31,7 +31,7 @@ use Rattle.listing.specs.Listing.{figuresText, waitText, verdictText, lineText,
 use Rattle.listing.specs.Listing.{IsReportLine, IsClosing, IsReportOf, IsHomingOf, IsHomingLine, IsReport, IsHoming}
 use Rattle.listing.proofs.Laws.{client-asked}
 use Rattle.listing.proofs.Once.{report-once, homing-once}
-use Rattle.promises.specs.Bench.{reportPlan, Answered}
+use Rattle.promises.specs.Bench.{reportPlan, Only}
 use Rattle.promises.specs.Texts.{reportStream, reportText, homingText}
 use Rattle.promises.proofs.Tests.{allBelow, okTest, ok-tested, lateTest, late-tested}
 use Rattle.promises.proofs.Figured.{Figured, figured, figure-allowed, wait-allowed}
@@ -163,7 +163,7 @@ report-of =
     }
 
 -- "it writes", and nothing else
-pub report-told : Answered (IsReport reportStream) reportText
+pub report-told : Only (IsReport reportStream) reportText
 report-told = only-answer (IsReport reportStream) (report-once reportStream) reportText (rw report-read report-of)
 
 -- ---- the homing listing
@@ -176,5 +176,5 @@ homing-of =
     (record { wait = wait.Given 7; is = second-wait; whole = refl })
 
 -- "writes only number and default wait", and nothing else
-pub homing-told : Answered (IsHoming reportStream) homingText
+pub homing-told : Only (IsHoming reportStream) homingText
 homing-told = only-answer (IsHoming reportStream) (homing-once reportStream) homingText (rw report-read homing-of)

@@ -13,6 +13,8 @@ use Rattle.records.specs.declared.Outcome.the-variants.{Fine}
 use Rattle.plan.specs.declared.Client.{Client}
 use Rattle.plan.specs.declared.Plan.{Plan}
 use Rattle.plan.specs.Plan.{noClient, defaultWaiting}
+use Rattle.figures.specs.declared.Figure.{Figure}
+use Rattle.figures.specs.declared.FigureAnswer.{FigureAnswer}
 use Rattle.figures.specs.declared.FigureAnswer.the-variants as figures
 use Rattle.figures.specs.declared.WaitAnswer.the-variants as wait
 use Rattle.figures.specs.Figures.{IsFigures, IsWaitFor}
@@ -84,10 +86,22 @@ pub data Question : Type 0 where
   -- it is served
   onePending : Plan → (i : ℕ) → Arbiter → List (List ℕ) → (served : ℕ) → Question
 
--- the contract Is allows this answer, and no other
-pub record Answered {A : Type 0} (Is : A → Type 0) (answer : A) : Type 0 where
+-- the contract Is allows an answer, and every answer that it allows is as This says
+pub record Answered {A : Type 0} (Is This : A → Type 0) : Type 0 where
+  pub answer : A
   pub is : Is answer
-  pub only : (r : A) → Is r → r ≡ answer
+  pub only : (r : A) → Is r → This r
+
+-- it allows this answer, and no other
+abbrev pub Only : {A : Type 0} → (A → Type 0) → A → Type 0
+Only Is answer = Answered Is (λ r. r ≡ answer)
+
+-- a figure is given, and it has this m and this L
+pub record HasFigure (m L : ℕ) (r : FigureAnswer) : Type 0 where
+  pub figure : Figure
+  pub given : r ≡ figures.Given figure
+  pub slots : figure .slots ≡ m
+  pub scaled : figure .scaled ≡ L
 
 -- demand 3, "a run of consecutive slots in each of which a drive has a request pending": client i + 1 has one and no
 -- more, and that is a run in which it has a request pending
@@ -98,25 +112,24 @@ pub record OnePending (plan : Plan) (i : ℕ) (arb : Arbiter) (xss : List (List 
 
 -- the answer is this one; it is a refusal in those questions alone that say so, and in steps
 abbrev pub Right : Question → Type 0
-Right (figure t m L) =
-    Answered (IsFigures (schedulePlan little t) 1) (figures.Given (record { slots = m; scaled = L }))
-Right (waiting t k slots) = Answered (IsWaitFor (schedulePlan little t) 1 k) (wait.Given slots)
-Right (defaultWait t slots) = Answered (IsWaitFor (schedulePlan little t) 1 defaultWaiting) (wait.Given slots)
-Right (refusedFigure t c number) = Answered (IsFigures (schedulePlan little t) c) (figures.Refused number)
-Right (refusedWait t c k number) = Answered (IsWaitFor (schedulePlan little t) c k) (wait.Refused number)
-Right (accepted t client) = Answered (IsJudged (schedulePlan client t)) (judged.Given acceptance)
+Right (figure t m L) = Answered (IsFigures (schedulePlan little t) 1) (HasFigure m L)
+Right (waiting t k slots) = Only (IsWaitFor (schedulePlan little t) 1 k) (wait.Given slots)
+Right (defaultWait t slots) = Only (IsWaitFor (schedulePlan little t) 1 defaultWaiting) (wait.Given slots)
+Right (refusedFigure t c number) = Only (IsFigures (schedulePlan little t) c) (figures.Refused number)
+Right (refusedWait t c k number) = Only (IsWaitFor (schedulePlan little t) c k) (wait.Refused number)
+Right (accepted t client) = Only (IsJudged (schedulePlan client t)) (judged.Given acceptance)
 Right (late t client s j) =
-    Answered (IsJudged (schedulePlan client t))
+    Only (IsJudged (schedulePlan client t))
     (judged.Given (record { client = 1; verdict = Late; start = s; length = j }))
 Right (found f n client table) =
-    Answered (IsSearched (searchPlan f n client))
+    Only (IsSearched (searchPlan f n client))
     (record { answer = finding.Found; owners = table ++ replicate (64 - f) 0 })
 Right (none f n client) =
-    Answered (IsSearched (searchPlan f n client)) (record { answer = finding.None; owners = replicate 64 0 })
+    Only (IsSearched (searchPlan f n client)) (record { answer = finding.None; owners = replicate 64 0 })
 Right (refusedSearch f n client number) =
-    Answered (IsSearched (searchPlan f n client)) (record { answer = finding.Refused number; owners = replicate 64 0 })
+    Only (IsSearched (searchPlan f n client)) (record { answer = finding.Refused number; owners = replicate 64 0 })
 Right (searchable f n client) = searchCheck (searchPlan f n client) ≡ Fine
-Right (steps plan arb xs goes) = Answered (λ r. r ≡ stepOf plan arb xs) goes
+Right (steps plan arb xs goes) = Only (λ r. r ≡ stepOf plan arb xs) goes
 Right (onePending plan i arb xss served) = OnePending plan i arb xss × (servedOf plan i arb xss ≡ served)
 
 -- all of a list are right
