@@ -29,8 +29,8 @@ module _ (plan : Plan) (c : ℕ) (figure : Figure) (is : IsFigures plan c (figur
   given-owns = omega (arith, is .1 .slots, figure-fine plan c (is .0) .owns)
 
   -- its numbers are small
-  pub given-small : (1 ≤ figure .slots) × (figure .slots ≤ 64) × (figure .scaled ≤ 1024)
-  given-small =
+  pub figure-small : (1 ≤ figure .slots) × (figure .slots ≤ 64) × (figure .scaled ≤ 1024)
+  figure-small =
       let f-high = figure-fine plan c (is .0) .checked .bounds .f-high in (
         given-owns,
         omega (arith, is .1 .slots, count-small (plan .owners) (plan .f) c 0 (plan .f) f-high),

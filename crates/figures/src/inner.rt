@@ -109,7 +109,7 @@ pub fn figure(plan: Plan, client: usize, m: usize) -> Figure
 }
 
 // The figure of a client that can be asked about, or 14.
-pub fn figures_of(plan: Plan, client: usize) -> FigureAnswer
+pub fn asked_figure(plan: Plan, client: usize) -> FigureAnswer
     requires { ⌜ askedCheck plan client ≡ Fine ⌝ }
     ensures { λ r. ⌜ IsFigures plan client r ⌝ }
 {

@@ -36,7 +36,7 @@ pub fn figure_of(plan: Plan, client: usize) -> FigureAnswer
     if let Outcome::Refused(number, offset) = asked {
         return FigureAnswer::Refused(number);
     }
-    inner::figures_of(plan, client)
+    inner::asked_figure(plan, client)
 }
 
 // The wait of a client for this many waiting requests: the figure's refusals, then 15.

@@ -1,5 +1,5 @@
--- There is one verdict of a client, and one judgement: one first client that is not ok, and one first stretch that shows
--- it.
+-- There is one verdict of a client, and one judgement: one first client that is not ok, and one first stretch that
+-- shows it.
 -- Assumes nothing.
 use mathlib.Core.Path.{_≡_, refl, sym, _∙_}
 use mathlib.Core.Bool.{false}

@@ -5,13 +5,13 @@ use super::Line;
 use super::Listed;
 use figures::FigureAnswer;
 use figures::WaitAnswer;
-use figures::inner::figures_of;
+use figures::inner::asked_figure;
 use figures::inner::wait_from;
 use judge::Judgement;
 use judge::Verdict;
 use judge::inner::acceptance;
-use judge::inner::first_failure;
 use judge::inner::earlier;
+use judge::inner::first_failure;
 use plan::Plan;
 use text::PAGE;
 use text::inner::put;
@@ -93,7 +93,7 @@ fn line_of(plan: Plan, client: usize, verdict: Verdict) -> Line
     requires { ⌜ IsVerdictOf plan client (Given verdict) ⌝ }
     ensures { λ r. ⌜ IsLine plan client r ⌝ }
 {
-    let figures = figures_of(plan, client);
+    let figures = asked_figure(plan, client);
     let wait = wait_from(plan, client, figures, Plan::DEFAULT_WAITING);
     Line {
         client: client,
@@ -172,7 +172,7 @@ fn homing_wait(plan: Plan, client: usize) -> WaitAnswer
     requires { ⌜ askedCheck plan client ≡ Fine ⌝ }
     ensures { λ r. ⌜ IsWaitFor plan client homingWaiting r ⌝ }
 {
-    let figures = figures_of(plan, client);
+    let figures = asked_figure(plan, client);
     wait_from(plan, client, figures, Plan::DEFAULT_WAITING)
 }
 

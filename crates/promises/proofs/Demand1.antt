@@ -1,8 +1,8 @@
--- Demand 1: every stream, plan, arbiter record and number handed in gets a defined reply. `defined` says it of all public
--- entries, row by row of the table in specs/Entries.antt: two outcomes that a contract allows coincide; each refusal has
--- its number, gives 0 for all else, a refused read a plan of zeros, and leaves a lent output untouched and a lent record
--- unchanged; places that are not used are not read; and the row is what the entry's own contract says. After it what is
--- one entry's own.
+-- Demand 1: every stream, plan, arbiter record and number handed in gets a defined reply. `defined` says it of all
+-- public entries, row by row of the table in specs/Entries.antt: two outcomes that a contract allows coincide; each
+-- refusal has its number, gives 0 for all else, a refused read a plan of zeros, and leaves a lent output untouched and a
+-- lent record unchanged; places that are not used are not read; each number is given somewhere; and the row is what the
+-- entry's own contract says. After it what is one entry's own.
 -- Assumes nothing.
 use mathlib.Core.Path.{_≡_, refl, ap, _∙_}
 use mathlib.Core.List.{List}

@@ -1,6 +1,6 @@
 // Plans, records and answers between arrays and the library's values, and a run of inner steps.
-use arbiter::Served;
 use arbiter::Arbiter;
+use arbiter::Served;
 use arbiter::StepAnswer;
 use arbiter::Stepped;
 use arbiter::inner::serve_slot;

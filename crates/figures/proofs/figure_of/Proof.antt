@@ -12,8 +12,8 @@ returns : tie.Need-returns
 unfolding figureCheck
 returns c = refuses (stops _ (c .before .before .before .check-asked .ensures) (c .before .asked .given .1)) refl
 
-figures-of-requires : tie.Need-figures-of-requires
-figures-of-requires c κs = sym (c .before .before .check-asked .ensures) ∙ c .enum-told .given .1
+asked-figure-requires : tie.Need-asked-figure-requires
+asked-figure-requires c κs = sym (c .before .before .check-asked .ensures) ∙ c .enum-told .given .1
 
 pub figure-of-spec : {M : Type 1} → statement M
 figure-of-spec =
@@ -23,5 +23,5 @@ figure-of-spec =
     (λ c. search needs)
     returns
     (λ c. search needs)
-    figures-of-requires
+    asked-figure-requires
     (λ c. search needs))

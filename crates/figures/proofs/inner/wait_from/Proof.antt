@@ -7,7 +7,7 @@ use Rattle.records.specs.Refusal as refusal
 use Rattle.records.proofs.Checks.{range-fine, refuses, passes}
 use Rattle.figures.specs.Check.{mostWaiting, waitCheck}
 use Rattle.figures.proofs.Questions.{figure-fine}
-use Rattle.figures.proofs.Answers.{given-small, waits-given, waits-stopped}
+use Rattle.figures.proofs.Answers.{figure-small, waits-given, waits-stopped}
 use Rattle.figures.proofs.inner.wait_from.Statement.{statement}
 use Rattle.figures.proofs.inner.wait_from.Tie as tie
 
@@ -24,7 +24,7 @@ least-wait-requires c κs =
     let start = c .before .before .before .before .before .before in
     let args = start .args in
     let is = rw (c .before .before .before .before .figures2 .given .1) at (start .pre) in
-    let small = given-small (args .plan) (args .client) _ is in
+    let small = figure-small (args .plan) (args .client) _ is in
     let k = range-fine (args .waiting) mostWaiting refusal.waiting (sym (range .ensures) ∙ c .enum-told .given .1) in
     let bounds = figure-fine (args .plan) (args .client) (is .0) .checked .bounds in
     ((bounds .f-high, small .0, small .1), (small .2, k .1))

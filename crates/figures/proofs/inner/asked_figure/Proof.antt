@@ -1,4 +1,4 @@
--- `figures::inner::figures_of` meets its contract: the checks before have passed, so 14 decides where it refuses, else
+-- `figures::inner::asked_figure` meets its contract: the checks before have passed, so 14 decides where it refuses, else
 -- the figure is given.
 -- Assumes nothing.
 use mathlib.Core.Path.{refl, sym}
@@ -7,8 +7,8 @@ use Rattle.records.proofs.Checks.{refuses, passes}
 use Rattle.plan.proofs.Laws.{asked-fine}
 use Rattle.figures.specs.Check.{figureCheck}
 use Rattle.figures.proofs.Questions.{owns-none, owns-some}
-use Rattle.figures.proofs.inner.figures_of.Statement.{statement}
-use Rattle.figures.proofs.inner.figures_of.Tie as tie
+use Rattle.figures.proofs.inner.asked_figure.Statement.{statement}
+use Rattle.figures.proofs.inner.asked_figure.Tie as tie
 
 slots-requires : tie.Need-slots-requires
 slots-requires c κs = asked-fine (c .args .plan) (c .args .client) (c .pre) .0 .bounds .f-high
@@ -35,5 +35,5 @@ returns-2 c =
     let some = owns-some (args .plan) (args .client) (omega (arith, c .before .before .slots .ensures)) in
     (rw (start .pre) some, c .figure .ensures)
 
-pub figures-of-spec : {M : Type 1} → statement M
-figures-of-spec = tie.close (tie.spec slots-requires returns figure-requires returns-2)
+pub asked-figure-spec : {M : Type 1} → statement M
+asked-figure-spec = tie.close (tie.spec slots-requires returns figure-requires returns-2)
