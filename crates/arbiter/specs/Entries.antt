@@ -17,15 +17,16 @@ use Rattle.arbiter.specs.Step.{stepCheck, refusedStep, stepOf, stepSaid}
 abbrev pub stepNumbers : List ℕ
 stepNumbers = planNumbers ++ (17 ∷ 18 ∷ [])
 
--- an entry that steps: how it hands back what a step gives, and where the answer stands in that
-abbrev pub steps : {R : Type 0} → (Stepped → R) → (R → Served) → Entry
-steps {R} back served =
+-- an entry that steps: Is ties what it gives to what a step gives, and back says how that is handed back; in it stands
+-- what is served
+abbrev pub stepping : {R : Type 0} → (R → Stepped → Type 0) → (Stepped → R) → (R → Served) → Entry
+stepping {R} Is back served =
     record {
       Subject = Plan;
       Same = Same;
       More = Arbiter × List ℕ;
       Reply = R;
-      Is = λ plan more r. r ≡ back (stepOf plan (more .0) (more .1));
+      Is = λ plan more r. Is r (stepOf plan (more .0) (more .1));
       check = λ plan more. stepCheck plan (more .0 .position) (length (more .1));
       numbers = stepNumbers;
       number = λ r. saidNumber (stepSaid (served r .answer));
@@ -34,8 +35,10 @@ steps {R} back served =
 
 -- `step` and `step_lending`
 abbrev pub stepEntry : Entry
-stepEntry = steps (λ s. s) (λ r. r .served)
+stepEntry = stepping (λ r s. r ≡ s) (λ s. s) (λ r. r .served)
 
 -- `step_in_place`: what is returned, and the lent record after the call
 abbrev pub inPlaceEntry : Entry
-inPlaceEntry = steps {R = Served × Arbiter} (λ s. (s .served, s .next)) (λ r. r .0)
+inPlaceEntry =
+    stepping {R = Served × Arbiter} (λ r s. (r .0 ≡ s .served) × (r .1 ≡ s .next)) (λ s. (s .served, s .next))
+    (λ r. r .0)

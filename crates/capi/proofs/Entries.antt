@@ -7,7 +7,7 @@ use mathlib.Core.Bool.{true, false}
 use mathlib.Core.List.{List, [], _∷_}
 use Prim.Native.Nat.{ℕ}
 use native.Mathlib.Omega.{arith}
-use lib.ListN.{length, getD, drop, replicate, length-drop}
+use lib.ListN.{length, getD, drop, length-drop}
 use lib.Seq.{take-all, drop-cons}
 use Rattle.records.specs.Refusal as refusal
 use Rattle.records.specs.First.{rangeCheck, orElse, numberOf, offsetOf, among, Gives}
@@ -30,9 +30,8 @@ use Rattle.stream.proofs.Entries.{rewritten-tight}
 use Rattle.figures.specs.Check.{figureCheck, waitCheck}
 use Rattle.figures.proofs.Entries.{figure-tight, wait-tight, default-tight}
 use Rattle.judge.proofs.Entries.{judge-tight, verdict-tight}
-use Rattle.search.specs.declared.SearchAnswer.the-variants as finding
 use Rattle.search.specs.declared.Searched.{Searched}
-use Rattle.search.specs.Search.{searchCheck, searchSaid}
+use Rattle.search.specs.Search.{searchCheck, searchSaid, refusedSearch}
 use Rattle.search.proofs.Refusals.{search-gives}
 use Rattle.search.proofs.Entries.{search-tight}
 use Rattle.arbiter.specs.declared.Stepped.{Stepped}
@@ -144,7 +143,7 @@ c-figures-tight = tight-tells _ _ _ _ _ _ _ _ figure-tight (λ k. refl) (λ c. r
 pub c-figures-tied : Tied cFiguresEntry (contract c-figures.Pre c-figures.Post)
 c-figures-tied =
     tie (λ a. a .0 .now) (λ a. a .1 .0) (λ r z. (r, z .1 .1 .0 .now ∷ z .1 .1 .1 .0 .now ∷ [])) (λ κs a. tt)
-    (λ κs a r z h. h)
+    (λ κs a r z. refl)
 
 pub c-wait-tight : Tight cWaitEntry
 unfolding waitCheck figureCheck askedCheck planCheck requirementsCheck rangeCheck
@@ -153,7 +152,7 @@ c-wait-tight = tight-tells _ _ _ _ _ _ _ _ wait-tight (λ k. refl) (λ x. refl) 
 pub c-wait-tied : Tied cWaitEntry (contract c-wait.Pre c-wait.Post)
 c-wait-tied =
     tie (λ a. a .0 .now) (λ a. (a .1 .0, a .1 .1 .0)) (λ r z. (r, z .1 .1 .1 .0 .now ∷ [])) (λ κs a. tt)
-    (λ κs a r z h. h)
+    (λ κs a r z. refl)
 
 pub c-default-tight : Tight cDefaultEntry
 unfolding figureCheck askedCheck planCheck requirementsCheck rangeCheck
@@ -161,7 +160,7 @@ c-default-tight = tight-tells _ _ _ _ _ _ _ _ default-tight (λ k. refl) (λ c. 
 
 pub c-default-tied : Tied cDefaultEntry (contract c-default.Pre c-default.Post)
 c-default-tied =
-    tie (λ a. a .0 .now) (λ a. a .1 .0) (λ r z. (r, z .1 .1 .0 .now ∷ [])) (λ κs a. tt) (λ κs a r z h. h)
+    tie (λ a. a .0 .now) (λ a. a .1 .0) (λ r z. (r, z .1 .1 .0 .now ∷ [])) (λ κs a. tt) (λ κs a r z. refl)
 
 pub c-judge-tight : Tight cJudgeEntry
 unfolding planCheck requirementsCheck rangeCheck
@@ -171,7 +170,7 @@ pub c-judge-tied : Tied cJudgeEntry (contract c-judge.Pre c-judge.Post)
 c-judge-tied =
     tie (λ a. a .0 .now) (λ a. tt)
     (λ r z. (r, z .1 .0 .now ∷ z .1 .1 .0 .now ∷ z .1 .1 .1 .0 .now ∷ z .1 .1 .1 .1 .0 .now ∷ [])) (λ κs a. tt)
-    (λ κs a r z h. h)
+    (λ κs a r z. refl)
 
 pub c-verdict-tight : Tight cVerdictEntry
 unfolding askedCheck planCheck requirementsCheck rangeCheck
@@ -179,7 +178,7 @@ c-verdict-tight = tight-tells _ _ _ _ _ _ _ _ verdict-tight (λ k. refl) (λ c. 
 
 pub c-verdict-tied : Tied cVerdictEntry (contract c-verdict.Pre c-verdict.Post)
 c-verdict-tied =
-    tie (λ a. a .0 .now) (λ a. a .1 .0) (λ r z. (r, z .1 .1 .0 .now ∷ [])) (λ κs a. tt) (λ κs a r z h. h)
+    tie (λ a. a .0 .now) (λ a. a .1 .0) (λ r z. (r, z .1 .1 .0 .now ∷ [])) (λ κs a. tt) (λ κs a r z. refl)
 
 -- ---- reading, and writing back
 
@@ -191,7 +190,7 @@ c-read-tight =
     (λ s t e x r. subst (λ v. ToldRead v (r .0) (r .1)) e)
 
 pub c-read-tied : Tied cReadEntry (contract c-read.Pre c-read.Post)
-c-read-tied = tie (λ a. a .0 .now) (λ a. tt) (λ r z. (r, z .1 .0 .now)) (λ κs a. tt) (λ κs a r z h. h)
+c-read-tied = tie (λ a. a .0 .now) (λ a. tt) (λ r z. (r, z .1 .0 .now)) (λ κs a. tt) (λ κs a r z. refl)
 
 pub c-write-tight : Tight cWriteEntry
 c-write-tight =
@@ -213,12 +212,9 @@ c-write-tight =
 pub c-write-tied : Tied cWriteEntry (contract c-write.Pre c-write.Post)
 c-write-tied =
     tie (λ a. a .0 .now) (λ a. a .1 .0 .now) (λ r z. (r, z .1 .1 .0 .now, z .1 .0 .now)) (λ κs a. tt)
-    (λ κs a r z h. h)
+    (λ κs a r z. refl)
 
 -- ---- the search
-
-abbrev refusedSearch : ℕ → Searched
-refusedSearch k = record { answer = finding.Refused k; owners = replicate 64 0 }
 
 search-heard : (s out : List ℕ) (a : Searched) → IsSearchedFor (readOf s .plan) a
     → Heard (λ plan x. searchCheck (emptied plan)) (λ a. saidNumber (searchSaid (a .answer)))
@@ -254,14 +250,21 @@ c-search-tight =
 pub c-search-tied : Tied cSearchEntry (contract c-search.Pre c-search.Post)
 c-search-tied =
     tie (λ a. a .0 .now) (λ a. a .1 .0 .now) (λ r z. (r, z .1 .1 .0 .now, z .1 .0 .now)) (λ κs a. tt)
-    (λ κs a r z h. h)
+    (λ κs a r z. refl)
 
 pub c-whole-tied : Tied cSearchEntry (contract c-whole.Pre c-whole.Post)
 c-whole-tied =
     tie (λ a. a .0 .now) (λ a. a .1 .0 .now) (λ r z. (r, z .1 .1 .0 .now, z .1 .0 .now)) (λ κs a. tt)
-    (λ κs a r z h. h)
+    (λ κs a r z. refl)
 
 -- ---- the step
+
+-- the bytes of a record are the nine that hold it
+record-same : (bytes : List ℕ) → length bytes ≡ 9 → recordBytes (recordIn bytes) ≡ bytes
+unfolding part
+record-same bytes long =
+    let rest = take-all 8 (drop 1 bytes) (omega (arith, length-drop 1 bytes)) in
+    ap (λ (l : List ℕ). getD bytes 0 0 ∷ l) rest ∙ sym (drop-cons bytes 0 0 (omega arith))
 
 step-heard : (s : List ℕ) (x : List ℕ × List ℕ) (a : Stepped) → a ≡ stepOf (readOf s .plan) (recordIn (x .0)) (x .1)
     → Heard (λ plan x. stepCheck plan (recordIn (x .0) .position) (length (x .1)))
@@ -284,11 +287,11 @@ c-step-tight =
           (h .kept ∙ ap (λ (a : Stepped). recordBytes (a .next)) e ∙ sym (h′ .kept))
           (h .stored ∙ ap (λ (a : Stepped). servedBytes (a .served)) e ∙ sym (h′ .stored));
       number = λ s x r h. h .returned ∙ step-heard s x (h .stepped) (h .is) .number;
-      refused = λ s x r k offset h e.
+      refused = λ s x r k offset h e nine.
           let answer = step-heard s x (h .stepped) (h .is) in
           let a = answer .refused k offset e in
           all-three (h .returned ∙ answer .number ∙ ap numberOf e)
-          (h .kept ∙ ap (λ (a : Stepped). recordBytes (a .next)) (a .2))
+          (h .kept ∙ ap (λ (a : Stepped). recordBytes (a .next)) (a .2) ∙ record-same (x .0) nine)
           (h .stored ∙ ap (λ (a : Stepped). servedBytes (a .served)) (a .2));
       numbers = read-then-gives (λ plan x. stepCheck plan (recordIn (x .0) .position) (length (x .1))) _ _
           (λ plan x. step-gives plan (recordIn (x .0) .position) (length (x .1))) refl refl;
@@ -299,19 +302,12 @@ c-step-tight =
 pub c-step-tied : Tied cStepEntry (contract c-step.Pre c-step.Post)
 c-step-tied =
     tie (λ a. a .0 .now) (λ a. (a .1 .0 .now, a .1 .1 .0 .now)) (λ r z. (r, z .1 .0 .now, z .1 .1 .1 .0 .now))
-    (λ κs a. tt) (λ κs a r z h. h)
-
--- the bytes of a record are the nine that hold it, so that a refused step leaves them as they were
-pub record-same : (bytes : List ℕ) → length bytes ≡ 9 → recordBytes (recordIn bytes) ≡ bytes
-unfolding part
-record-same bytes long =
-    let rest = take-all 8 (drop 1 bytes) (omega (arith, length-drop 1 bytes)) in
-    ap (λ (l : List ℕ). getD bytes 0 0 ∷ l) rest ∙ sym (drop-cons bytes 0 0 (omega arith))
+    (λ κs a. tt) (λ κs a r z. refl)
 
 -- ---- the texts
 
 pub c-report-tied : Tied reportEntry (contract c-report.Pre c-report.Post)
-c-report-tied = tie (λ a. a .0 .now) (λ a. a .1 .0 .now) (λ r z. (r, z .1 .0 .now)) (λ κs a. tt) (λ κs a r z h. h)
+c-report-tied = tie (λ a. a .0 .now) (λ a. a .1 .0 .now) (λ r z. (r, z .1 .0 .now)) (λ κs a. tt) (λ κs a r z. refl)
 
 pub c-homing-tied : Tied homingEntry (contract c-homing.Pre c-homing.Post)
-c-homing-tied = tie (λ a. a .0 .now) (λ a. a .1 .0 .now) (λ r z. (r, z .1 .0 .now)) (λ κs a. tt) (λ κs a r z h. h)
+c-homing-tied = tie (λ a. a .0 .now) (λ a. a .1 .0 .now) (λ r z. (r, z .1 .0 .now)) (λ κs a. tt) (λ κs a r z. refl)

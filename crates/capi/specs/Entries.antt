@@ -21,7 +21,7 @@ use Rattle.judge.specs.Judge.{acceptance, judgeSaid, IsJudged, verdictSaid, IsV
 use Rattle.search.specs.Search.{searchCheck}
 use Rattle.arbiter.specs.Step.{stepCheck}
 use Rattle.capi.specs.Calls.{figureValues, noFigure, waitValues, verdictValues, judgementValues, ToldRead, Told}
-use Rattle.capi.specs.Calls.{ToldWrite, emptied, ToldSearch, recordIn, recordBytes, ToldStep}
+use Rattle.capi.specs.Calls.{ToldWrite, emptied, ToldSearch, recordIn, ToldStep}
 
 -- reading's refusals, then those of a check of the plan that was read
 abbrev pub readThen : {X : Type 0} → (Plan → X → Outcome) → List ℕ → X → Outcome
@@ -103,4 +103,4 @@ abbrev pub cStepEntry : Entry
 cStepEntry =
     reads {R = ℕ × List ℕ × List ℕ} (λ s (x : List ℕ × List ℕ) r. ToldStep s (x .0) (x .1) (r .0) (r .1) (r .2))
     (readThen (λ plan x. stepCheck plan (recordIn (x .0) .position) (length (x .1)))) (readAnd (17 ∷ 18 ∷ []))
-    (λ r. r .0) (λ x k offset r. r ≡ (k, recordBytes (recordIn (x .0)), replicate 9 0))
+    (λ r. r .0) (λ x k offset r. length (x .0) ≡ 9 → r ≡ (k, x .0, replicate 9 0))

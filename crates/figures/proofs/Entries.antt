@@ -39,7 +39,7 @@ figure-tight =
     figure-gives refl figures-same
 
 pub figure-tied : Tied figureEntry (contract figure-of.Pre figure-of.Post)
-figure-tied = tie (λ a. a .0) (λ a. a .1 .0) (λ r z. r) (λ κs a. tt) (λ κs a r z h. h)
+figure-tied = tie (λ a. a .0) (λ a. a .1 .0) (λ r z. r) (λ κs a. tt) (λ κs a r z. refl)
 
 pub wait-tight : Tight waitEntry
 wait-tight =
@@ -47,7 +47,7 @@ wait-tight =
     (λ plan x. wait-gives plan (x .0) (x .1)) refl (λ plan other same x. waits-same plan other same (x .0) (x .1))
 
 pub wait-tied : Tied waitEntry (contract wait-for.Pre wait-for.Post)
-wait-tied = tie (λ a. a .0) (λ a. (a .1 .0, a .1 .1 .0)) (λ r z. r) (λ κs a. tt) (λ κs a r z h. h)
+wait-tied = tie (λ a. a .0) (λ a. (a .1 .0, a .1 .1 .0)) (λ r z. r) (λ κs a. tt) (λ κs a r z. refl)
 
 pub default-tight : Tight defaultEntry
 default-tight =
@@ -62,4 +62,4 @@ default-tight =
     }
 
 pub default-tied : Tied defaultEntry (contract default-wait.Pre default-wait.Post)
-default-tied = tie (λ a. a .0) (λ a. a .1 .0) (λ r z. r) (λ κs a. tt) (λ κs a r z h. h)
+default-tied = tie (λ a. a .0) (λ a. a .1 .0) (λ r z. r) (λ κs a. tt) (λ κs a r z. refl)

@@ -35,7 +35,7 @@ judge-tight =
     (λ plan x. plan-gives plan) refl (λ plan other same x. judged-same plan other same)
 
 pub judge-tied : Tied judgeEntry (contract judge.Pre judge.Post)
-judge-tied = tie (λ a. a .0) (λ a. tt) (λ r z. r) (λ κs a. tt) (λ κs a r z h. h)
+judge-tied = tie (λ a. a .0) (λ a. tt) (λ r z. r) (λ κs a. tt) (λ κs a r z. refl)
 
 pub verdict-tight : Tight verdictEntry
 verdict-tight =
@@ -43,4 +43,4 @@ verdict-tight =
     asked-gives refl verdicts-same
 
 pub verdict-tied : Tied verdictEntry (contract verdict-of.Pre verdict-of.Post)
-verdict-tied = tie (λ a. a .0) (λ a. a .1 .0) (λ r z. r) (λ κs a. tt) (λ κs a r z h. h)
+verdict-tied = tie (λ a. a .0) (λ a. a .1 .0) (λ r z. r) (λ κs a. tt) (λ κs a r z. refl)

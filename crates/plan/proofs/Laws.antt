@@ -18,7 +18,7 @@ use Rattle.records.proofs.Checks.{first-same, one-or-none, below-or-not}
 use Rattle.records.proofs.Lists.{get-padded, padded-same}
 use Rattle.plan.specs.declared.Client.{Client}
 use Rattle.plan.specs.declared.Plan.{Plan}
-use Rattle.plan.specs.Plan.{noClient, clientOf, ownerOf, isClient, ownIn, ownOf, Same, used}
+use Rattle.plan.specs.Plan.{noClient, clientOf, ownerOf, isClient, ownIn, ownOf, Same, SameRequired, used}
 use Rattle.plan.specs.Check.{clientCheck, ownerCheck, clientCheckOf, requirementsCheck}
 use Rattle.plan.specs.Check.{ownerCheckOf, ownersCheck, planCheck, askedCheck}
 
@@ -146,17 +146,7 @@ used-same plan =
       owners = λ x l. sym (get-padded (ownerOf plan) (plan .f) 64 0 x l);
     }
 
--- either way round
-pub same-back : (plan other : Plan) → Same plan other → Same other plan
-same-back plan other s =
-    record {
-      frame = sym (s .frame);
-      count = sym (s .count);
-      clients = λ i l. sym (s .clients i (omega (arith, s .count)));
-      owners = λ x l. sym (s .owners x (omega (arith, s .frame)));
-    }
-
--- and there is one plan that is 0 there
+-- and there is one such plan
 pub same-used : (plan other : Plan) → Same plan other → used plan ≡ used other
 unfolding used
 same-used plan other s =
@@ -164,20 +154,32 @@ same-used plan other s =
     let o = padded-same (ownerOf plan) (ownerOf other) (plan .f) 64 0 (s .owners) in
     rw (c, o, s .frame, s .count)
 
--- plans with the same f, n and requirements are refused alike before their owners are looked at
-pub requirements-same : (plan other : Plan) → plan .f ≡ other .f → plan .n ≡ other .n
-    → ((i : ℕ) → i < plan .n → clientOf plan i ≡ clientOf other i) → requirementsCheck plan ≡ requirementsCheck other
+-- plans with the same requirements are refused alike before their owners are looked at
+pub same-required : (plan other : Plan) → Same plan other → SameRequired plan other
+same-required plan other s = record { frame = s .frame; count = s .count; clients = s .clients }
+
+pub requirements-same : (plan other : Plan) → SameRequired plan other
+    → requirementsCheck plan ≡ requirementsCheck other
 unfolding requirementsCheck clientCheckOf
-requirements-same plan other frame count clients =
+requirements-same plan other s =
     let c = first-same (clientCheckOf plan) (clientCheckOf other) (plan .n)
-    (λ i l. ap (λ (x : Client). clientCheck x 0) (clients i l)) in
-    rw (c, frame, count)
+    (λ i l. ap (λ (x : Client). clientCheck x 0) (s .clients i l)) in
+    rw (c, s .frame, s .count)
+
+-- either way round
+pub required-back : (plan other : Plan) → SameRequired plan other → SameRequired other plan
+required-back plan other s =
+    record {
+      frame = sym (s .frame);
+      count = sym (s .count);
+      clients = λ i l. sym (s .clients i (omega (arith, s .count)));
+    }
 
 -- the same plan is refused alike
 pub same-check : (plan other : Plan) → Same plan other → planCheck plan ≡ planCheck other
 unfolding planCheck ownersCheck ownerCheckOf
 same-check plan other s =
-    let r = requirements-same plan other (s .frame) (s .count) (s .clients) in
+    let r = requirements-same plan other (same-required plan other s) in
     let o = first-same (ownerCheckOf plan) (ownerCheckOf other) (plan .f) (λ x l. rw (s .owners x l, s .count)) in
     rw (r, o, s .frame)
 

@@ -10,7 +10,7 @@ use Rattle.records.specs.First.{between, unless, rangeCheck, orElse, firstOf, o
 use Rattle.records.specs.declared.Outcome.{Outcome}
 use Rattle.records.specs.declared.Outcome.the-variants.{Fine}
 use Rattle.records.proofs.Refusals.{or-each, first-each, unless-gives, range-gives, or-gives, first-gives}
-use Rattle.records.proofs.Refusals.{unless-within, unless-unread, range-unread}
+use Rattle.records.proofs.Refusals.{unless-within, unless-offset, range-offset}
 use Rattle.plan.specs.declared.Client.{Client}
 use Rattle.plan.specs.declared.Plan.{Plan}
 use Rattle.plan.specs.Plan.{clientOf, ownerOf}
@@ -87,27 +87,27 @@ unfolding ownerCheck
 owner-within most owner n offset h = unless-within most (leb owner n) refusal.owner offset h
 
 -- the offset outside reading
-abbrev unread : Outcome → Type 0
-unread o = offsetOf o ≡ 0
+abbrev NoOffset : Outcome → Type 0
+NoOffset o = offsetOf o ≡ 0
 
-pub requirements-unread : (plan : Plan) → offsetOf (requirementsCheck plan) ≡ 0
+pub requirements-offset : (plan : Plan) → offsetOf (requirementsCheck plan) ≡ 0
 unfolding clientCheck
-requirements-unread =
-    requirements-each unread refl
-    (λ f. range-unread f 64 refusal.frame)
-    (λ n. range-unread n 8 refusal.count)
+requirements-offset =
+    requirements-each NoOffset refl
+    (λ f. range-offset f 64 refusal.frame)
+    (λ n. range-offset n 8 refusal.count)
     (λ c.
-    or-each unread
+    or-each NoOffset
     (unless (between 1 (c .p) (c .q)) refusal.rate 0) (unless (leb 1 (c .b)) refusal.latency 0)
-    (unless-unread (between 1 (c .p) (c .q)) refusal.rate) (unless-unread (leb 1 (c .b)) refusal.latency))
+    (unless-offset (between 1 (c .p) (c .q)) refusal.rate) (unless-offset (leb 1 (c .b)) refusal.latency))
 
-pub plan-unread : (plan : Plan) → offsetOf (planCheck plan) ≡ 0
+pub plan-offset : (plan : Plan) → offsetOf (planCheck plan) ≡ 0
 unfolding ownerCheck
-plan-unread plan =
-    plan-each unread refl (λ owner n. unless-unread (leb owner n) refusal.owner) plan (requirements-unread plan)
+plan-offset plan =
+    plan-each NoOffset refl (λ owner n. unless-offset (leb owner n) refusal.owner) plan (requirements-offset plan)
 
-pub asked-unread : (plan : Plan) (c : ℕ) → offsetOf (askedCheck plan c) ≡ 0
+pub asked-offset : (plan : Plan) (c : ℕ) → offsetOf (askedCheck plan c) ≡ 0
 unfolding askedCheck
-asked-unread plan c =
-    or-each unread (planCheck plan) (rangeCheck c (plan .n) refusal.asked) (plan-unread plan)
-    (range-unread c (plan .n) refusal.asked)
+asked-offset plan c =
+    or-each NoOffset (planCheck plan) (rangeCheck c (plan .n) refusal.asked) (plan-offset plan)
+    (range-offset c (plan .n) refusal.asked)

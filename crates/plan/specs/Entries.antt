@@ -5,7 +5,7 @@ use Prim.Native.Nat.{ℕ}
 use Rattle.records.specs.Entry.{Entry, finds, always}
 use Rattle.plan.specs.declared.Client.{Client}
 use Rattle.plan.specs.declared.Plan.{Plan}
-use Rattle.plan.specs.Plan.{noClient, noPlan, Same, withTable}
+use Rattle.plan.specs.Plan.{noClient, noPlan, Same, SameRequired, withTable}
 use Rattle.plan.specs.Check.{requirementsCheck, planCheck, askedCheck}
 
 -- "5, 6, then 8 and 9"
@@ -20,17 +20,18 @@ planNumbers = requirementsNumbers ++ (10 ∷ [])
 abbrev pub askedNumbers : List ℕ
 askedNumbers = planNumbers ++ (13 ∷ [])
 
--- `check_requirements`
+-- `check_requirements`: no owner is read
 abbrev pub requirementsEntry : Entry
-requirementsEntry = finds Same (λ plan (more : Unit {0}). requirementsCheck plan) requirementsNumbers
+requirementsEntry =
+    finds SameRequired (λ offset. 0) (λ plan (more : Unit {0}). requirementsCheck plan) requirementsNumbers
 
 -- `check`
 abbrev pub checkEntry : Entry
-checkEntry = finds Same (λ plan (more : Unit {0}). planCheck plan) planNumbers
+checkEntry = finds Same (λ offset. 0) (λ plan (more : Unit {0}). planCheck plan) planNumbers
 
 -- `check_asked`
 abbrev pub askedEntry : Entry
-askedEntry = finds Same askedCheck askedNumbers
+askedEntry = finds Same (λ offset. 0) askedCheck askedNumbers
 
 -- `no_client`
 abbrev pub noClientEntry : Entry

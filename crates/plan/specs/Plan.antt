@@ -45,6 +45,12 @@ pub record Same (plan other : Plan) : Type 0 where
   pub clients : (i : ℕ) → i < plan .n → clientOf plan i ≡ clientOf other i
   pub owners : (x : ℕ) → x < plan .f → ownerOf plan x ≡ ownerOf other x
 
+-- and so are their requirements, whoever owns the slots
+pub record SameRequired (plan other : Plan) : Type 0 where
+  pub frame : plan .f ≡ other .f
+  pub count : plan .n ≡ other .n
+  pub clients : (i : ℕ) → i < plan .n → clientOf plan i ≡ clientOf other i
+
 -- "places past f and past n .. are 0 on the way out": the same plan with 0 there
 unfoldable pub used : Plan → Plan
 used plan =

@@ -258,7 +258,7 @@ module _ (f n : ℕ) (clients : List Client) (r : Searched) (is : IsSearched (id
   found-checked e =
       let h = is-found e in
       let plan = idlePlan f n clients in
-      let same = requirements-same plan foundPlan refl refl (λ i l. refl) in
+      let same = requirements-same plan foundPlan (record { frame = refl; count = refl; clients = λ i l. refl }) in
       let fine = requirements-pass plan (search-fine plan (h .0) .bounds) in
       record {
         bounds = requirements-fine foundPlan (sym same ∙ fine);

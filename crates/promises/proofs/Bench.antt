@@ -48,7 +48,7 @@ use Rattle.arbiter.specs.Step.{ruleFor, servedBy, lessOne, advanced, positionCh
 use Rattle.arbiter.specs.Run.{recordAfter, totalOf, servedOf, pendingOf}
 use Rattle.promises.specs.Bench.{Schedule, schedulePlan, searchPlan, little, Question, figure, waiting}
 use Rattle.promises.specs.Bench.{defaultWait, refusedFigure, refusedWait, accepted, late, found, none}
-use Rattle.promises.specs.Bench.{refusedSearch, searchable, steps, onePending, Only, OnePending, Right}
+use Rattle.promises.specs.Bench.{searchRefused, searchable, steps, onePending, Only, OnePending, Right}
 use Rattle.promises.specs.Bench.{AllRight, questions}
 use Rattle.promises.proofs.Tests.{allBelow, each-below, fineTest, fine-tested, refusedTest, refused-tested}
 use Rattle.promises.proofs.Tests.{okTest, ok-tested, lateTest, late-tested, acceptTest, everyTable, lexTest}
@@ -129,7 +129,7 @@ test (late t client s j) =
 test (found f n client table) =
     pick (fineTest (searchCheck (searchPlan f n client))) (bestTest (searchPlan f n client) table) false
 test (none f n client) = pick (fineTest (searchCheck (searchPlan f n client))) (noneTest (searchPlan f n client)) false
-test (refusedSearch f n client number) = refusedTest (searchCheck (searchPlan f n client)) number
+test (searchRefused f n client number) = refusedTest (searchCheck (searchPlan f n client)) number
 test (searchable f n client) = fineTest (searchCheck (searchPlan f n client))
 test (steps plan arb xs goes) = stepTest (stepOf plan arb xs) goes
 test (onePending plan i arb xss served) =
@@ -317,7 +317,7 @@ right (found f n client table) h =
 right (none f n client) h =
     let g = both-true (fineTest (searchCheck (searchPlan f n client))) (noneTest (searchPlan f n client)) h in
     none-right f n client (g .0) (g .1)
-right (refusedSearch f n client number) h =
+right (searchRefused f n client number) h =
     let plan = searchPlan f n client in
     only-answer (IsSearched plan) (search-tight .once plan tt) _ (refused-tested (searchCheck plan) number h, refl)
 right (searchable f n client) h = fine-tested (searchCheck (searchPlan f n client)) h

@@ -1,5 +1,5 @@
--- The table's contracts: each entry's own, as the kit makes it of the words in its lib.rt; and every row says what they
--- say, and asks nothing of a call.
+-- The table's contracts: each entry's own, as the kit makes it of the words in its lib.rt. Each is its row's, and asks
+-- nothing of a call.
 -- Assumes nothing.
 use Rattle.records.specs.Entry.{Contract, contract, Tied}
 use Rattle.records.proofs.Entries as records

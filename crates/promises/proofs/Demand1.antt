@@ -1,8 +1,8 @@
 -- Demand 1: every stream, plan, arbiter record and number handed in gets a defined reply. `defined` says it of all
 -- public entries, row by row of the table in specs/Entries.antt: two outcomes that a contract allows coincide; each
--- refusal has its number, gives 0 for all else, a refused read a plan of zeros, and leaves a lent output untouched and a
--- lent record unchanged; places that are not used are not read; each number is given somewhere; and the row is what the
--- entry's own contract says. After it what is one entry's own.
+-- refusal has its number, gives 0 for all else, a refused read a plan of zeros, and leaves a lent output untouched and
+-- a lent record unchanged; places that are not used are not read; each number is given somewhere; and the row is the
+-- entry's own contract. After it what is one entry's own.
 -- Assumes nothing.
 use mathlib.Core.Path.{_≡_, refl, ap, _∙_}
 use mathlib.Core.List.{List}
@@ -18,7 +18,7 @@ use Rattle.records.specs.Put.{Put}
 use Rattle.records.specs.declared.Outcome.{Outcome}
 use Rattle.records.specs.declared.Outcome.the-variants.{Fine, Refused}
 use Rattle.records.proofs.Said.{answers-given}
-use Rattle.records.proofs.Entry as row
+use Rattle.records.proofs.Entry as entries
 use Rattle.records.proofs.Puts.{put-length, put-front}
 use Rattle.records.proofs.Entries as records
 use Rattle.plan.proofs.Entries as plan
@@ -116,7 +116,7 @@ pub exactly : (name : Name) (u : entry name .Subject) (x : entry name .More) (r 
     → entry name .Is u x r
     → (entry name .number r ≡ 0 → entry name .check u x ≡ Fine)
     × (entry name .check u x ≡ Fine → entry name .number r ≡ 0)
-exactly name = row.exactly (entry name) (tight name)
+exactly name = entries.exactly (entry name) (tight name)
 
 -- ---- where a check passes
 

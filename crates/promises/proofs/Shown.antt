@@ -91,8 +91,8 @@ abbrev bytesAt : ℕ → List ℕ
 bytesAt x = x ∷ replicate 8 0
 
 -- a plan's faults, then a position that is not below f, and a list without entries
-abbrev stepped : List (Plan × (Arbiter × List ℕ))
-stepped =
+abbrev stepInputs : List (Plan × (Arbiter × List ℕ))
+stepInputs =
     map (with (recordAt 0, 1 ∷ [])) faulty
     ++ ((fine, (recordAt 1, 1 ∷ [])) ∷ (fine, (recordAt 0, [])) ∷ [])
 
@@ -110,7 +110,7 @@ shown Name.records::check-range = ([], refl)
 shown Name.records::wide = ([], refl)
 shown Name.records::kind-at = ([], refl)
 shown Name.records::check-record = ([], refl)
-shown Name.records::check-over = ([], refl)
+shown Name.records::check-over = (((1 ∷ []), 0) ∷ [], refl)
 shown Name.plan::no-client = ([], refl)
 shown Name.plan::no-plan = ([], refl)
 shown Name.plan::with-table = ([], refl)
@@ -128,9 +128,9 @@ shown Name.figures::default-wait = (map (with 1) faulty ++ ((fine, 0) ∷ (idle,
 shown Name.judge::judge = (map (with tt) faulty, refl)
 shown Name.judge::verdict-of = (map (with 1) faulty ++ ((fine, 0) ∷ []), refl)
 shown Name.search::search = (map (with tt) (lacking ++ (small 9 1 1 1 0 ∷ [])), refl)
-shown Name.arbiter::step = (stepped, refl)
-shown Name.arbiter::step-in-place = (stepped, refl)
-shown Name.arbiter::step-lending = (stepped, refl)
+shown Name.arbiter::step = (stepInputs, refl)
+shown Name.arbiter::step-in-place = (stepInputs, refl)
+shown Name.arbiter::step-lending = (stepInputs, refl)
 shown Name.text::put-refusal = ([], refl)
 shown Name.listing::report = ([], refl)
 shown Name.listing::homing = ([], refl)

@@ -1,7 +1,7 @@
 -- The bench examples of document 01 that are marked P, 11 to 13 with them, two more schedules and more steps, and the
--- refusals of figures, waits, searches and steps: a question, and the answer that its contract allows, and no other.
--- And a run in which one request is pending. Numbers are written out, none by its name, so that a name with another
--- number is refused. `bench` in proofs/Bench.antt proves them all.
+-- refusals of figures, waits, searches and steps: a question, and the answer that its contract allows, and no other;
+-- besides a search at its limits, and a run in which one request is pending. Refusal numbers and limits are written
+-- out, so that a name with another number is refused. `bench` in proofs/Bench.antt proves them all.
 use mathlib.Core.Path.{_≡_}
 use mathlib.Core.List.{List, [], _∷_, _++_}
 use Prim.Native.Nat.{ℕ, _-_, _<_}
@@ -22,7 +22,7 @@ use Rattle.judge.specs.declared.JudgeAnswer.the-variants as judged
 use Rattle.judge.specs.declared.Verdict.the-variants.{Late}
 use Rattle.judge.specs.Judge.{acceptance, IsJudged}
 use Rattle.search.specs.declared.SearchAnswer.the-variants as finding
-use Rattle.search.specs.Search.{idlePlan, searchCheck, IsSearched}
+use Rattle.search.specs.Search.{idlePlan, searchCheck, IsSearched, refusedSearch}
 use Rattle.arbiter.specs.declared.Arbiter.{Arbiter}
 use Rattle.arbiter.specs.declared.StepAnswer.the-variants.{Given}
 use Rattle.arbiter.specs.declared.Stepped.{Stepped}
@@ -77,7 +77,7 @@ pub data Question : Type 0 where
   -- or none
   none : (f n : ℕ) → Client → Question
   -- or a search that is refused with this number
-  refusedSearch : (f n : ℕ) → Client → (number : ℕ) → Question
+  searchRefused : (f n : ℕ) → Client → (number : ℕ) → Question
   -- or one that is not refused
   searchable : (f n : ℕ) → Client → Question
   -- a step of the arbiter from this record, with these arrivals: what it gives
@@ -110,7 +110,8 @@ pub record OnePending (plan : Plan) (i : ℕ) (arb : Arbiter) (xss : List (List 
   pub one : (d : ℕ) → d < length xss → pendingOf plan i arb xss d ≡ 1
   pub always : AlwaysPendingOf plan i arb xss 0 (length xss)
 
--- the answer is this one; it is a refusal in those questions alone that say so, and in steps
+-- the answer is this one; it is a refusal in those questions alone that say so, and in steps. A search at its limits is
+-- not refused, and a run serves its client so often
 abbrev pub Right : Question → Type 0
 Right (figure t m L) = Answered (IsFigures (schedulePlan little t) 1) (HasFigure m L)
 Right (waiting t k slots) = Only (IsWaitFor (schedulePlan little t) 1 k) (wait.Given slots)
@@ -126,8 +127,7 @@ Right (found f n client table) =
     (record { answer = finding.Found; owners = table ++ replicate (64 - f) 0 })
 Right (none f n client) =
     Only (IsSearched (searchPlan f n client)) (record { answer = finding.None; owners = replicate 64 0 })
-Right (refusedSearch f n client number) =
-    Only (IsSearched (searchPlan f n client)) (record { answer = finding.Refused number; owners = replicate 64 0 })
+Right (searchRefused f n client number) = Only (IsSearched (searchPlan f n client)) (refusedSearch number)
 Right (searchable f n client) = searchCheck (searchPlan f n client) ≡ Fine
 Right (steps plan arb xs goes) = Only (λ r. r ≡ stepOf plan arb xs) goes
 Right (onePending plan i arb xss served) = OnePending plan i arb xss × (servedOf plan i arb xss ≡ served)
@@ -233,8 +233,8 @@ questions =
     ∷ refusedWait p3 1 0 15
     ∷ refusedWait p3 1 256 15
     -- "16 .. search with f > 8 or n > 4"
-    ∷ refusedSearch 9 4 (requiring 1 8 7 1) 16
-    ∷ refusedSearch 8 5 (requiring 1 8 7 1) 16
+    ∷ searchRefused 9 4 (requiring 1 8 7 1) 16
+    ∷ searchRefused 8 5 (requiring 1 8 7 1) 16
     ∷ searchable 8 4 (requiring 1 8 7 1)
     -- example 13; slot 3, which is client 2's, who has nothing pending, passes unused
     ∷ steps reportPlan (holding 0 255 0) (1 ∷ 0 ∷ []) (serving 1 (counts 1 0) (holding 1 254 0))

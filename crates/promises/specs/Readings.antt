@@ -14,12 +14,12 @@ pub record Example : Type 0 where
   pub reading : Reading
 
 -- nothing is refused, and the stream's plan is this one
-abbrev pub gives : List ℕ → Plan → Example
-gives s plan = record { stream = s; reading = record { outcome = Fine; plan = plan } }
+abbrev pub readAs : List ℕ → Plan → Example
+readAs s plan = record { stream = s; reading = record { outcome = Fine; plan = plan } }
 
 -- "A refused read returns the number, the offset .., and a plan with every number 0"
-abbrev pub refuses : List ℕ → (number offset : ℕ) → Example
-refuses s number offset = record { stream = s; reading = record { outcome = Refused number offset; plan = noPlan } }
+abbrev pub refusedWith : List ℕ → (number offset : ℕ) → Example
+refusedWith s number offset = record { stream = s; reading = record { outcome = Refused number offset; plan = noPlan } }
 
 -- a head: f 2, n 1
 abbrev pub head : List ℕ
@@ -68,34 +68,34 @@ longerPlan =
 -- two whole plans, and then each refusal of reading
 unfoldable pub examples : List Example
 examples =
-    gives (head ++ client ++ row ++ (9 ∷ [])) plan
-    ∷ gives longer longerPlan
+    readAs (head ++ client ++ row ++ (9 ∷ [])) plan
+    ∷ readAs longer longerPlan
     -- 1: no kind byte, at the stream's length; a body that is short, at its kind byte
-    ∷ refuses [] 1 0
-    ∷ refuses head 1 3
-    ∷ refuses (head ++ client ++ row) 1 22
-    ∷ refuses (1 ∷ 0 ∷ []) 1 0
+    ∷ refusedWith [] 1 0
+    ∷ refusedWith head 1 3
+    ∷ refusedWith (head ++ client ++ row) 1 22
+    ∷ refusedWith (1 ∷ 0 ∷ []) 1 0
     -- 2 and 3: a reserved kind before one that is not due, and both before a short body
-    ∷ refuses (4 ∷ []) 2 0
-    ∷ refuses (9 ∷ []) 3 0
-    ∷ refuses (head ++ (3 ∷ [])) 3 3
-    ∷ refuses (head ++ client ++ (16 ∷ [])) 2 13
+    ∷ refusedWith (4 ∷ []) 2 0
+    ∷ refusedWith (9 ∷ []) 3 0
+    ∷ refusedWith (head ++ (3 ∷ [])) 3 3
+    ∷ refusedWith (head ++ client ++ (16 ∷ [])) 2 13
     -- "Kinds 0, 4 to 8 and 10 to 255 are reserved": their ends
-    ∷ refuses (0 ∷ []) 2 0
-    ∷ refuses (head ++ (8 ∷ [])) 2 3
-    ∷ refuses (head ++ client ++ row ++ (10 ∷ [])) 2 22
-    ∷ refuses (head ++ client ++ row ++ (255 ∷ [])) 2 22
+    ∷ refusedWith (0 ∷ []) 2 0
+    ∷ refusedWith (head ++ (8 ∷ [])) 2 3
+    ∷ refusedWith (head ++ client ++ row ++ (10 ∷ [])) 2 22
+    ∷ refusedWith (head ++ client ++ row ++ (255 ∷ [])) 2 22
     -- 4: last, at the first byte too many
-    ∷ refuses (head ++ client ++ row ++ (9 ∷ 9 ∷ [])) 4 23
+    ∷ refusedWith (head ++ client ++ row ++ (9 ∷ 9 ∷ [])) 4 23
     -- 5 before 6
-    ∷ refuses (1 ∷ 0 ∷ 0 ∷ []) 5 0
-    ∷ refuses (1 ∷ 65 ∷ 1 ∷ []) 5 0
-    ∷ refuses (1 ∷ 64 ∷ 9 ∷ []) 6 0
+    ∷ refusedWith (1 ∷ 0 ∷ 0 ∷ []) 5 0
+    ∷ refusedWith (1 ∷ 65 ∷ 1 ∷ []) 5 0
+    ∷ refusedWith (1 ∷ 64 ∷ 9 ∷ []) 6 0
     -- 7 before 8, 8 before 9
-    ∷ refuses (head ++ (2 ∷ 2 ∷ 0 ∷ 0 ∷ 0 ∷ 2 ∷ 0 ∷ 3 ∷ 0 ∷ 0 ∷ [])) 7 3
-    ∷ refuses (head ++ (2 ∷ 1 ∷ 0 ∷ 3 ∷ 0 ∷ 2 ∷ 0 ∷ 3 ∷ 0 ∷ 0 ∷ [])) 8 3
-    ∷ refuses (head ++ (2 ∷ 1 ∷ 0 ∷ 2 ∷ 0 ∷ 2 ∷ 0 ∷ 3 ∷ 0 ∷ 0 ∷ [])) 9 3
+    ∷ refusedWith (head ++ (2 ∷ 2 ∷ 0 ∷ 0 ∷ 0 ∷ 2 ∷ 0 ∷ 3 ∷ 0 ∷ 0 ∷ [])) 7 3
+    ∷ refusedWith (head ++ (2 ∷ 1 ∷ 0 ∷ 3 ∷ 0 ∷ 2 ∷ 0 ∷ 3 ∷ 0 ∷ 0 ∷ [])) 8 3
+    ∷ refusedWith (head ++ (2 ∷ 1 ∷ 0 ∷ 2 ∷ 0 ∷ 2 ∷ 0 ∷ 3 ∷ 0 ∷ 0 ∷ [])) 9 3
     -- 10 before 11 in one row, and both before 4
-    ∷ refuses (head ++ client ++ (3 ∷ 1 ∷ 2 ∷ 0 ∷ 255 ∷ 255 ∷ 255 ∷ 255 ∷ 255 ∷ 255 ∷ [])) 10 13
-    ∷ refuses (head ++ client ++ (3 ∷ 1 ∷ 0 ∷ 255 ∷ 255 ∷ 255 ∷ 255 ∷ 255 ∷ 0 ∷ 9 ∷ 9 ∷ [])) 11 13
+    ∷ refusedWith (head ++ client ++ (3 ∷ 1 ∷ 2 ∷ 0 ∷ 255 ∷ 255 ∷ 255 ∷ 255 ∷ 255 ∷ 255 ∷ [])) 10 13
+    ∷ refusedWith (head ++ client ++ (3 ∷ 1 ∷ 0 ∷ 255 ∷ 255 ∷ 255 ∷ 255 ∷ 255 ∷ 0 ∷ 9 ∷ 9 ∷ [])) 11 13
     ∷ []

@@ -69,12 +69,13 @@ module _ (e : Entry) where
     λ fine. t .number u x r is ∙ ap numberOf fine,
   )
 
-pub tight-finds : {U X : Type 0} (Same : U → U → Type 0) (check : U → X → Outcome) (ks : List ℕ)
-    → ((u : U) (x : X) → offsetOf (check u x) ≡ 0) → ((u : U) (x : X) → Gives ks (check u x)) → among 0 ks ≡ false
-    → ((u u′ : U) → Same u u′ → (x : X) → check u x ≡ check u′ x) → Tight (finds Same check ks)
-tight-finds Same check ks unread gives nonzero same =
-    tight-fixed (finds Same check ks) check (λ u x r is. is) (λ u x. refl)
-    (λ u x k offset. offset-none (check u x) (unread u x)) gives nonzero (λ u u′ alike x r is. is ∙ same u u′ alike x)
+pub tight-finds : {U X : Type 0} (Same : U → U → Type 0) (at : ℕ → ℕ) (check : U → X → Outcome) (ks : List ℕ)
+    → ((u : U) (x : X) (k offset : ℕ) → check u x ≡ Refused k offset → check u x ≡ Refused k (at offset))
+    → ((u : U) (x : X) → Gives ks (check u x)) → among 0 ks ≡ false
+    → ((u u′ : U) → Same u u′ → (x : X) → check u x ≡ check u′ x) → Tight (finds Same at check ks)
+tight-finds Same at check ks stops gives nonzero same =
+    tight-fixed (finds Same at check ks) check (λ u x r is. is) (λ u x. refl) stops gives nonzero
+    (λ u u′ alike x r is. is ∙ same u u′ alike x)
 
 pub tight-always : {U X R : Type 0} (Is : U → X → R → Type 0)
     → ((u : U) (x : X) (r r′ : R) → Is u x r → Is u x r′ → r ≡ r′) → Tight (always Is)
@@ -93,9 +94,10 @@ pub tight-equal : {U X R : Type 0} (value : U → X → R) → Tight (always (λ
 tight-equal value = tight-always _ (λ u x r r′ is is′. is ∙ sym is′)
 
 -- the tie of a row to a contract: what of the arguments is the subject and what is more, what of the result and of the
--- arguments at the end is the reply; that nothing is asked, and that the row says what the contract says
+-- arguments at the end is the reply; that nothing is asked, and that the contract is the row's
 pub tie : {e : Entry} {c : Contract} (subject : c .Arguments → e .Subject) (more : c .Arguments → e .More)
     (reply : c .Result → c .Last → e .Reply) → ((κs : c .Lifetimes) (a : c .Arguments) → c .Pre κs a)
-    → ((κs : c .Lifetimes) (a : c .Arguments) (r : c .Result) (z : c .Last) → c .Post κs a r z
-    → e .Is (subject a) (more a) (reply r z)) → Tied e c
-tie subject more reply asks is = record { subject = subject; more = more; reply = reply; asks = asks; is = is }
+    → ((κs : c .Lifetimes) (a : c .Arguments) (r : c .Result) (z : c .Last)
+    → c .Post κs a r z ≡ e .Is (subject a) (more a) (reply r z)) → Tied e c
+tie subject more reply free same =
+    record { subject = subject; more = more; reply = reply; asksNothing = free; same = same }

@@ -145,10 +145,10 @@ pub over-within : (s : List ℕ) (at : ℕ) → offsetOf (overCheck s at) ≤ le
 unfolding overCheck
 over-within s at = over-by (length s) at (leb (length s) at) refl
 
-pub unless-unread : (b : Bool) (k : ℕ) → offsetOf (unless b k 0) ≡ 0
-unless-unread true k = refl
-unless-unread false k = refl
+pub unless-offset : (b : Bool) (k : ℕ) → offsetOf (unless b k 0) ≡ 0
+unless-offset true k = refl
+unless-offset false k = refl
 
-pub range-unread : (x high k : ℕ) → offsetOf (rangeCheck x high k) ≡ 0
+pub range-offset : (x high k : ℕ) → offsetOf (rangeCheck x high k) ≡ 0
 unfolding rangeCheck
-range-unread x high k = unless-unread (between 1 x high) k
+range-offset x high k = unless-offset (between 1 x high) k

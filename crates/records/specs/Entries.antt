@@ -1,12 +1,12 @@
--- The entries of `records` as rows of demand 1's table. They refuse nothing themselves: what they find is returned, and
--- the entries above refuse by it.
+-- The entries of `records` as rows of demand 1's table. What they find is returned, with a number that may have been
+-- handed in, and the entries above refuse by it: so all but the last refuse nothing themselves.
 use mathlib.Core.Path.{_≡_}
-use mathlib.Core.List.{List}
+use mathlib.Core.List.{List, [], _∷_}
 use Prim.Native.Nat.{ℕ, _<_}
 use lib.ListN.{getD}
 use Rattle.records.specs.First.{rangeCheck, orElse}
 use Rattle.records.specs.Record.{recordCheck, overCheck}
-use Rattle.records.specs.Entry.{Entry, always}
+use Rattle.records.specs.Entry.{Entry, finds, always}
 use Rattle.records.specs.declared.Outcome.{Outcome}
 
 -- `or_else`
@@ -30,6 +30,6 @@ abbrev pub recordEntry : Entry
 recordEntry =
     always (λ (s : List ℕ) (more : ℕ × ℕ × ℕ) (r : Outcome). r ≡ recordCheck s (more .0) (more .1) (more .2))
 
--- `check_over`
+-- `check_over`, whose number is its own: 4
 abbrev pub overEntry : Entry
-overEntry = always (λ (s : List ℕ) (at : ℕ) (r : Outcome). r ≡ overCheck s at)
+overEntry = finds (λ (s t : List ℕ). s ≡ t) (λ offset. offset) overCheck (4 ∷ [])

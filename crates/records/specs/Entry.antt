@@ -1,5 +1,5 @@
--- Demand 1 for one public entry: "Every stream, plan, arbiter record and number handed in gets a defined reply"
--- (document 01, Demands). An entry is a row of a table: what is handed in, what it refuses, what comes back.
+-- Demand 1 for one public entry: "Every stream, table, arbiter record and number handed in gets a defined reply". An
+-- entry is a row of a table: what is handed in, what it refuses, what comes back.
 use mathlib.Core.Path.{_≡_}
 use mathlib.Core.Bool.{false}
 use mathlib.Core.List.{List, [], map}
@@ -13,7 +13,7 @@ pub record Entry : Type 1 where
   -- what it is asked about, and when two of these are the same: "Places past f .. and past n are ignored"
   pub Subject : Type 0
   pub Same : Subject → Subject → Type 0
-  -- all else that is handed in, lent memory as it is before the call
+  -- all else that is handed in, and lent memory as it is before the call where that matters
   pub More : Type 0
   -- what comes back, lent memory as it is after the call
   pub Reply : Type 0
@@ -63,14 +63,15 @@ abbrev pub contract : {K A R L : Type 0} → (K → A → Type 0) → (K → A �
 contract {K} {A} {R} {L} Pre Post =
     record { Lifetimes = K; Arguments = A; Result = R; Last = L; Pre = Pre; Post = Post }
 
--- nothing is asked of a call, and what the contract says of it the row says
-pub record Tied (e : Entry) (c : Contract) : Type 0 where
+-- nothing is asked of a call, and what the contract says of it is what the row says; in the reply stand the result and
+-- all that is lent to be changed
+pub record Tied (e : Entry) (c : Contract) : Type 1 where
   pub subject : c .Arguments → e .Subject
   pub more : c .Arguments → e .More
   pub reply : c .Result → c .Last → e .Reply
-  pub asks : (κs : c .Lifetimes) (a : c .Arguments) → c .Pre κs a
-  pub is : (κs : c .Lifetimes) (a : c .Arguments) (r : c .Result) (z : c .Last) → c .Post κs a r z
-      → e .Is (subject a) (more a) (reply r z)
+  pub asksNothing : (κs : c .Lifetimes) (a : c .Arguments) → c .Pre κs a
+  pub same : (κs : c .Lifetimes) (a : c .Arguments) (r : c .Result) (z : c .Last)
+      → c .Post κs a r z ≡ e .Is (subject a) (more a) (reply r z)
 
 -- ---- rows of one shape
 
@@ -90,9 +91,9 @@ says {U} {X} {A} {R} Same Is check numbers say refuse =
       Refuses = λ x k offset r. r ≡ refuse k;
     }
 
--- an entry that returns what a check finds; outside reading the offset is 0
-abbrev pub finds : {U X : Type 0} → (U → U → Type 0) → (U → X → Outcome) → List ℕ → Entry
-finds {U} {X} Same check numbers =
+-- an entry that returns what a check finds; `at` is the offset that it has, 0 outside reading
+abbrev pub finds : {U X : Type 0} → (U → U → Type 0) → (ℕ → ℕ) → (U → X → Outcome) → List ℕ → Entry
+finds {U} {X} Same at check numbers =
     record {
       Subject = U;
       Same = Same;
@@ -102,7 +103,7 @@ finds {U} {X} Same check numbers =
       check = check;
       numbers = numbers;
       number = numberOf;
-      Refuses = λ x k offset r. r ≡ Refused k 0;
+      Refuses = λ x k offset r. r ≡ Refused k (at offset);
     }
 
 -- an entry that refuses nothing

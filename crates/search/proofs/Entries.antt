@@ -26,4 +26,4 @@ search-tight =
     }
 
 pub search-tied : Tied searchEntry (contract search.Pre search.Post)
-search-tied = tie (λ a. idlePlan (a .0) (a .1 .0) (a .1 .1 .0)) (λ a. tt) (λ r z. r) (λ κs a. tt) (λ κs a r z h. h)
+search-tied = tie (λ a. idlePlan (a .0) (a .1 .0) (a .1 .1 .0)) (λ a. tt) (λ r z. r) (λ κs a. tt) (λ κs a r z. refl)

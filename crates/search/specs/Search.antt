@@ -64,3 +64,7 @@ SearchedAs plan a owners =
 -- the same of an answer with its owners
 abbrev pub IsSearched : Plan → Searched → Type 0
 IsSearched plan r = SearchedAs plan (r .answer) (r .owners)
+
+-- "A refusal .. returns its number with all other results 0"
+abbrev pub refusedSearch : ℕ → Searched
+refusedSearch number = record { answer = finding.Refused number; owners = replicate 64 0 }

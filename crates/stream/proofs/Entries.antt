@@ -13,7 +13,7 @@ use Rattle.records.specs.declared.Outcome.the-variants as outcome
 use Rattle.records.proofs.Entry.{both, offset-none, tight-fixed, tie}
 use Rattle.plan.specs.Plan.{Same}
 use Rattle.plan.specs.Check.{planCheck}
-use Rattle.plan.proofs.Refusals.{plan-gives, plan-unread}
+use Rattle.plan.proofs.Refusals.{plan-gives, plan-offset}
 use Rattle.stream.specs.Read.{readOf}
 use Rattle.stream.specs.Write.{streamOf, writeCheck, writtenBy, writtenOf, bytesBy, bytesOf, Wrote, writeSaid}
 use Rattle.stream.specs.Trip.{Rewritten, Reread, copyCheck, Copied, rereadOf}
@@ -56,7 +56,7 @@ read-tight =
     (λ s t e more r. subst (λ v. (r ≡ readOf v) × Rewritten v r) e)
 
 pub read-tied : Tied readEntry (contract read.Pre read.Post)
-read-tied = tie (λ a. a .0 .now) (λ a. tt) (λ r z. r) (λ κs a. tt) (λ κs a r z h. h)
+read-tied = tie (λ a. a .0 .now) (λ a. tt) (λ r z. r) (λ κs a. tt) (λ κs a r z. refl)
 
 pub write-tight : Tight writeEntry
 unfolding writtenOf bytesOf
@@ -68,7 +68,7 @@ write-tight =
 
 pub write-tied : Tied writeEntry (contract write.Pre write.Post)
 write-tied =
-    tie (λ a. a .0) (λ a. a .1 .0 .now) (λ r z. (r, z .1 .0 .now)) (λ κs a. tt) (λ κs a r z h. h)
+    tie (λ a. a .0) (λ a. a .1 .0 .now) (λ r z. (r, z .1 .0 .now)) (λ κs a. tt) (λ κs a r z. refl)
 
 pub rewritten-tight : Tight rewrittenEntry
 rewritten-tight =
@@ -77,14 +77,14 @@ rewritten-tight =
 
 pub rewritten-tied : Tied rewrittenEntry (contract rewritten.Pre rewritten.Post)
 rewritten-tied =
-    tie (λ a. a .0 .now) (λ a. a .1 .0 .now) (λ r z. (r, z .1 .0 .now)) (λ κs a. tt) (λ κs a r z h. h)
+    tie (λ a. a .0 .now) (λ a. a .1 .0 .now) (λ r z. (r, z .1 .0 .now)) (λ κs a. tt) (λ κs a r z. refl)
 
 pub reread-tight : Tight rereadEntry
 unfolding rereadOf
 reread-tight =
     tight-fixed rereadEntry (λ plan more. rereadOf plan) (λ plan more r is. is) (λ plan more. refl)
-    (λ plan more k offset e. rw (offset-none (planCheck plan) (plan-unread plan) e)) (λ plan more. plan-gives plan) refl
+    (λ plan more k offset e. rw (offset-none (planCheck plan) (plan-offset plan) e)) (λ plan more. plan-gives plan) refl
     (λ plan other same more r is. is ∙ same-rereading plan other same)
 
 pub reread-tied : Tied rereadEntry (contract reread.Pre reread.Post)
-reread-tied = tie (λ a. a .0) (λ a. tt) (λ r z. r) (λ κs a. tt) (λ κs a r z h. h)
+reread-tied = tie (λ a. a .0) (λ a. tt) (λ r z. r) (λ κs a. tt) (λ κs a r z. refl)

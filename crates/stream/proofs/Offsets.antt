@@ -14,7 +14,7 @@ use Rattle.records.specs.Record.{overCheck}
 use Rattle.records.specs.declared.Outcome.{Outcome}
 use Rattle.records.specs.declared.Outcome.the-variants.{Fine}
 use Rattle.records.proofs.Refusals.{or-reached, or-each, first-reached, first-each, unless-within, record-within}
-use Rattle.records.proofs.Refusals.{over-within, range-unread}
+use Rattle.records.proofs.Refusals.{over-within, range-offset}
 use Rattle.plan.specs.Check.{frameCheck, countCheck, clientCheck, ownerCheck}
 use Rattle.plan.proofs.Refusals.{client-within, owner-within}
 use Rattle.stream.specs.Kind.{headKind, clientKind, rowKind, endKind, bodyOf, classOf, rowsOf}
@@ -59,8 +59,8 @@ unfolding Within headRecordCheck
 head-within s =
     let frame : Outcome = frameCheck (fIn s) in
     let count : Outcome = countCheck (nIn s) in
-    let f = range-unread (fIn s) 64 refusal.frame in
-    let n = range-unread (nIn s) 8 refusal.count in
+    let f = range-offset (fIn s) 64 refusal.frame in
+    let n = range-offset (nIn s) 8 refusal.count in
     or-each (Within s) (dueCheck s 0 headKind) (orElse frame count) (due-within s 0 headKind (omega arith))
     (or-each (Within s) frame count (omega arith) (omega arith))
 

@@ -17,7 +17,7 @@ use Rattle.records.proofs.Checks.{both-fine, unless-fine}
 use Rattle.plan.specs.declared.Plan.{Plan}
 use Rattle.plan.specs.Plan.{noPlan}
 use Rattle.plan.specs.Check.{planCheck}
-use Rattle.plan.proofs.Refusals.{plan-unread}
+use Rattle.plan.proofs.Refusals.{plan-offset}
 use Rattle.stream.specs.Read.{readOf}
 use Rattle.stream.specs.Trip.{Rewritten, Reread, copyCheck, Copied, rereadOf}
 use Rattle.stream.specs.Write.{streamOf, longest, writeCheck, writtenBy, writtenOf, bytesBy, bytesOf, Wrote}
@@ -98,7 +98,7 @@ refused-by plan k outcome.Fine h e =
     absurd (omega arith)
 refused-by plan k (outcome.Refused j offset) h e =
     let number : j ≡ k = cc in
-    let unread : offset ≡ 0 = rw h at (plan-unread plan) in
+    let unread : offset ≡ 0 = rw h at (plan-offset plan) in
     rw (h, number, unread)
 
 pub reread-refused : (plan : Plan) (out : List ℕ) (r : WriteAnswer) (now : List ℕ) (k : ℕ) → length out ≡ longest

@@ -1,6 +1,6 @@
 -- The row of `text` holds, and is its entry's own contract; a row that puts a text holds where there is one such text.
 -- Assumes nothing.
-use mathlib.Core.Path.{_≡_, sym, _∙_}
+use mathlib.Core.Path.{_≡_, refl, sym, _∙_}
 use mathlib.Core.List.{List}
 use Prim.Native.Nat.{ℕ}
 use Rattle.records.specs.Entry.{Tight, contract, Tied}
@@ -23,4 +23,4 @@ put-refusal-tight =
 
 pub put-refusal-tied : Tied putRefusalEntry (contract put-refusal.Pre put-refusal.Post)
 put-refusal-tied =
-    tie (λ a. (a .1 .0, a .1 .1 .0)) (λ a. a .0 .now) (λ r z. (r, z .0 .now)) (λ κs a. tt) (λ κs a r z h. h)
+    tie (λ a. (a .1 .0, a .1 .1 .0)) (λ a. a .0 .now) (λ r z. (r, z .0 .now)) (λ κs a. tt) (λ κs a r z. refl)

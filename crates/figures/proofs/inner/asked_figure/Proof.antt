@@ -1,5 +1,5 @@
--- `figures::inner::asked_figure` meets its contract: the checks before have passed, so 14 decides where it refuses, else
--- the figure is given.
+-- `figures::inner::asked_figure` meets its contract: the checks before have passed, so 14 decides where it refuses,
+-- else the figure is given.
 -- Assumes nothing.
 use mathlib.Core.Path.{refl, sym}
 use native.Mathlib.Omega.{arith}
