@@ -3,7 +3,6 @@
 use mathlib.Core.Path.{_≡_, refl, ap, _∙_}
 use Rattle.records.specs.First.{numberOf}
 use Rattle.records.specs.Entry.{Tight, contract, Tied}
-use Rattle.records.proofs.Said.{answers-once, answers-number, answers-refused}
 use Rattle.records.proofs.Entry.{tight-says, tie}
 use Rattle.plan.specs.Plan.{Same, defaultWaiting}
 use Rattle.figures.specs.declared.FigureAnswer.{FigureAnswer}
@@ -49,16 +48,17 @@ wait-tight =
 pub wait-tied : Tied waitEntry (contract wait-for.Pre wait-for.Post)
 wait-tied = tie (λ a. a .0) (λ a. (a .1 .0, a .1 .1 .0)) (λ r z. r) (λ κs a. tt) (λ κs a r z. refl)
 
+-- it is the wait for the default number, which is never refused for that number
 pub default-tight : Tight defaultEntry
 default-tight =
     record {
-      once = λ plan c r r′ is is′. wait-alike r r′ (answers-once _ _ waits-one (waitSaid r) (waitSaid r′) is is′);
-      number = λ plan c r is. answers-number _ _ (waitSaid r) is ∙ ap numberOf (default-check plan c);
+      once = λ plan c. wait-tight .once plan (c, defaultWaiting);
+      number = λ plan c r is. wait-tight .number plan (c, defaultWaiting) r is ∙ ap numberOf (default-check plan c);
       refused = λ plan c r k offset is e.
-          wait-alike r (wait.Refused k) (answers-refused _ _ (waitSaid r) is (default-check plan c ∙ e));
+          wait-tight .refused plan (c, defaultWaiting) r k offset is (default-check plan c ∙ e);
       numbers = figure-gives;
       nonzero = refl;
-      unread = λ plan other same c. waits-same plan other same c defaultWaiting;
+      unread = λ plan other same c. wait-tight .unread plan other same (c, defaultWaiting);
     }
 
 pub default-tied : Tied defaultEntry (contract default-wait.Pre default-wait.Post)
