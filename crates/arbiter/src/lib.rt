@@ -1,5 +1,7 @@
 // The arbiter: one step is one slot of a plan's frame. Every plan, record and list of arrivals gets an answer; `inner`
 // has the step for callers that have checked their plan.
+#![tactic(auto)]
+
 pub mod inner; // inner.rt
 
 ghost use Rattle.std.specs.Prelude.{◌≡◌};
@@ -9,28 +11,28 @@ use plan::Plan;
 use records::Outcome;
 
 // The record: the position in the frame, and each client's pending count.
-#[derive(Drop)]
+#[derive(Clone, Copy)]
 pub struct Arbiter {
     pub position: usize,
     pub pending: [u8; 8],
 }
 
 // The client served in a slot, 0 where it passes unused; or the refusal's number.
-#[derive(Drop)]
+#[derive(Clone, Copy)]
 pub enum StepAnswer {
     Given(usize),
     Refused(u8),
 }
 
 // What a step says: whom it served, and each client's requests turned away.
-#[derive(Drop)]
+#[derive(Clone, Copy)]
 pub struct Served {
     pub answer: StepAnswer,
     pub turned: [u8; 8],
 }
 
 // What a step gives: its answer, and the record after it.
-#[derive(Drop)]
+#[derive(Clone, Copy)]
 pub struct Stepped {
     pub served: Served,
     pub next: Arbiter,

@@ -1,6 +1,8 @@
 // The bench: it reads cases from standard input to its end and writes the library's reply to each. It is a test
 // program: its functions are proved to be safe and to return, and what it writes is compared with what a second program
 // expects. `case` has the fields of a case, `reply` the words of a reply, `ops` what each op calls.
+#![tactic(auto)]
+
 mod case; // case.rt
 mod ops; // ops.rt
 mod reply; // reply.rt

@@ -2,6 +2,8 @@
 // which C passes as pointer and length; every number is a usize; answers are stored in lent numbers and in arrays of
 // fixed size, which C passes as pointers. Each function returns the refusal's number, 0 where nothing is refused; the
 // two that write text return its length. `inner` stores the answers.
+#![tactic(auto)]
+
 pub mod inner; // inner.rt
 
 ghost use Rattle.std.specs.Prelude.{◌∷◌, []};

@@ -1,9 +1,11 @@
 // The engine of the search: of all ways to give up to eight places to up to eight clients, the best one that suits them
 // all. What suits a client stands in its tree of needs; rates and stretches are not known here.
+#![tactic(auto)]
+
 pub mod inner; // inner.rt
 
 // The best filling so far: whether there is one, the owners of its places, and how many places it gives.
-#[derive(Drop)]
+#[derive(Clone, Copy)]
 pub struct Best {
     pub found: bool,
     pub owners: [u8; 8],
@@ -11,7 +13,7 @@ pub struct Best {
 }
 
 // The first places of a filling: how many, how many of them are given, their owners, and each client's node.
-#[derive(Drop)]
+#[derive(Clone, Copy)]
 pub struct Front {
     pub long: usize,
     pub given: usize,

@@ -1,5 +1,7 @@
 // A client's figures: its slots in the frame, its scaled latency, and the wait for a number of requests. Every plan and
 // number gets an answer; `inner` has the functions for callers that have checked their plan.
+#![tactic(auto)]
+
 pub mod inner; // inner.rt
 
 ghost use Rattle.plan.specs.Plan.{default_waiting};
@@ -9,21 +11,21 @@ use plan::Plan;
 use records::Outcome;
 
 // m, the client's slots in the frame, and L, its scaled latency.
-#[derive(Drop)]
+#[derive(Clone, Copy)]
 pub struct Figure {
     pub slots: usize,
     pub scaled: usize,
 }
 
 // A client's figure, or the refusal's number.
-#[derive(Drop)]
+#[derive(Clone, Copy)]
 pub enum FigureAnswer {
     Given(Figure),
     Refused(u8),
 }
 
 // A wait in slots, or the refusal's number.
-#[derive(Drop)]
+#[derive(Clone, Copy)]
 pub enum WaitAnswer {
     Given(usize),
     Refused(u8),

@@ -1,5 +1,7 @@
 // The homing listing: reads a plan stream from standard input, its first 4,096 bytes, and writes its homing listing to
 // standard output.
+#![tactic(auto)]
+
 use libc::{STDIN_FILENO, STDOUT_FILENO};
 
 fn main() {

@@ -1,5 +1,7 @@
 // Judging: a client's verdict, whether a plan is accepted, and else the first client and its first stretch that show
 // why not. Every plan and number gets an answer; `inner` has the functions for callers that have checked their plan.
+#![tactic(auto)]
+
 pub mod inner; // inner.rt
 
 ghost use Rattle.judge.specs.Judge.{IsJudged, IsVerdictOf};
@@ -8,7 +10,7 @@ use plan::{Plan, check_asked};
 use records::Outcome;
 
 // What judging says of a client.
-#[derive(Drop)]
+#[derive(Clone, Copy)]
 pub enum Verdict {
     Ok,
     Rate,
@@ -16,7 +18,7 @@ pub enum Verdict {
 }
 
 // The first client that is not ok, its verdict and, if late, the first stretch that shows it; 0 and Ok where all are.
-#[derive(Drop)]
+#[derive(Clone, Copy)]
 pub struct Judgement {
     pub client: usize,
     pub verdict: Verdict,
@@ -25,14 +27,14 @@ pub struct Judgement {
 }
 
 // Where judging a plan stopped, or the refusal's number.
-#[derive(Drop)]
+#[derive(Clone, Copy)]
 pub enum JudgeAnswer {
     Given(Judgement),
     Refused(u8),
 }
 
 // A client's verdict, or the refusal's number.
-#[derive(Drop)]
+#[derive(Clone, Copy)]
 pub enum VerdictAnswer {
     Given(Verdict),
     Refused(u8),

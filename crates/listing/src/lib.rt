@@ -1,5 +1,7 @@
 // The report and the homing listing of a plan stream, as text in a lent page. Every stream gets a text, one that is
 // refused its one line. `inner` has the texts and their lines, for a plan that is checked.
+#![tactic(auto)]
+
 pub mod inner; // inner.rt
 
 ghost use Rattle.text.specs.Text.{Puts, Lendable};
@@ -11,7 +13,7 @@ use records::Outcome;
 use text::PAGE;
 
 // What a line of the report shows.
-#[derive(Drop)]
+#[derive(Clone, Copy)]
 pub struct Line {
     pub client: usize,
     pub figures: FigureAnswer,
@@ -20,7 +22,7 @@ pub struct Line {
 }
 
 // The lines put of a report: the place after them, and where judging their clients stopped.
-#[derive(Drop)]
+#[derive(Clone, Copy)]
 pub struct Listed {
     pub next: usize,
     pub found: Judgement,

@@ -1,6 +1,8 @@
 // The plan as a value: a frame's slots, their owners, and what each client requires. `check` gives a plan's first
 // refusal, `check_asked` that of a question about one of its clients; `inner` has the checks one by one, for the reader
 // of plan files and for callers that know the bounds.
+#![tactic(auto)]
+
 pub mod inner; // inner.rt
 
 ghost use Rattle.std.specs.Prelude.{◌≡◌};
@@ -10,7 +12,7 @@ ghost use Rattle.plan.specs.Check.{requirements_check, plan_check, asked_check};
 use records::{Outcome, check_range, or_else, refusal};
 
 // What a client requires: the rate p/q, the latency a/b in slots.
-#[derive(Drop)]
+#[derive(Clone, Copy)]
 pub struct Client {
     pub p: u16,
     pub q: u16,
@@ -19,7 +21,7 @@ pub struct Client {
 }
 
 // f slots, n clients; an owner is 0 for idle, or a client's number. Places past f and past n are ignored.
-#[derive(Drop)]
+#[derive(Clone, Copy)]
 pub struct Plan {
     pub f: usize,
     pub n: usize,

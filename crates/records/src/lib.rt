@@ -1,5 +1,7 @@
 // What all streams of records share, whatever their kinds: what a check finds and the first refusal of two, the record
 // due at a place, the bytes past the end. `inner` has what asks for room: words, and bytes put into a lent output.
+#![tactic(auto)]
+
 pub mod inner; // inner.rt
 pub mod refusal; // refusal.rt
 
@@ -8,7 +10,7 @@ ghost use Rattle.records.specs.First.{or_else, range_check};
 ghost use Rattle.records.specs.Record.{record_check, over_check};
 
 // What a check finds: nothing, or a refusal's number and offset (0 where no stream is read).
-#[derive(Drop)]
+#[derive(Clone, Copy)]
 pub enum Outcome {
     Fine,
     Refused(u8, usize),
@@ -25,6 +27,7 @@ pub fn or_else(first: Outcome, second: Outcome) -> Outcome
 }
 
 // A number that is to be 1 to high, outside reading.
+#[tactic(auto, unfolding(crate::specs::First::range_check))]
 pub fn check_range(x: usize, high: usize, number: u8) -> Outcome
     ensures { result ≡ range_check x high number }
 {
@@ -52,6 +55,7 @@ pub fn kind_at(s: &[u8], at: usize) -> u8
 }
 
 // A record at a place: its class is 0 where its kind is due, else the refusal; its body has this many bytes.
+#[tactic(auto, unfolding(crate::specs::Record::record_check))]
 pub fn check_record(s: &[u8], at: usize, class: u8, body: usize) -> Outcome
     ensures { result ≡ record_check s.now at class body }
 {
@@ -68,6 +72,7 @@ pub fn check_record(s: &[u8], at: usize, class: u8, body: usize) -> Outcome
 }
 
 // Nothing follows the end record, whose next place is at.
+#[tactic(auto, unfolding(crate::specs::Record::over_check))]
 pub fn check_over(s: &[u8], at: usize) -> Outcome
     ensures { result ≡ over_check s.now at }
 {

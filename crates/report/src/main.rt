@@ -1,4 +1,6 @@
 // The report: reads a plan stream from standard input, its first 4,096 bytes, and writes its report to standard output.
+#![tactic(auto)]
+
 use libc::{STDIN_FILENO, STDOUT_FILENO};
 
 fn main() {

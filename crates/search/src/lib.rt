@@ -1,5 +1,7 @@
 // The search of short frames: of all accepted tables one with the fewest owned slots, and of those the least in
 // dictionary order. It is the best filling of an idle table; `inner` has that of any plan with up to eight idle slots.
+#![tactic(auto)]
+
 pub mod inner; // inner.rt
 
 ghost use Rattle.search.specs.Search.{idle_plan, IsSearched};
@@ -8,7 +10,7 @@ use plan::{Client, Plan};
 use records::Outcome;
 
 // A table was found, there is none, or the refusal's number.
-#[derive(Drop)]
+#[derive(Clone, Copy)]
 pub enum SearchAnswer {
     Found,
     None,
@@ -16,14 +18,14 @@ pub enum SearchAnswer {
 }
 
 // The answer, and the owners of the table found: 0 past f, and all 0 where none was.
-#[derive(Drop)]
+#[derive(Clone, Copy)]
 pub struct Searched {
     pub answer: SearchAnswer,
     pub owners: [u8; 64],
 }
 
 // The best filling of a plan's idle slots: whether there is one, and the owners of the whole table.
-#[derive(Drop)]
+#[derive(Clone, Copy)]
 pub struct Mended {
     pub found: bool,
     pub owners: [u8; 64],

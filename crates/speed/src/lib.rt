@@ -1,6 +1,8 @@
 // The library's operations for tests/speed to time beside their C twins. A plan is handed in as f, n, the clients' p,
 // q, a and b one after the other, and the owners; a refusal's number is returned, 0 where nothing is refused. Only that
 // these functions are safe and return is proved; what they call has its own contracts.
+#![tactic(auto)]
+
 pub mod inner; // inner.rt
 
 use figures::FigureAnswer;

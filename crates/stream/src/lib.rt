@@ -1,6 +1,8 @@
 // Plan files. `read` gives any bytes the plan that they are the stream of, or the refusal and its offset; `write`
 // puts a plan's stream into a lent output; `rewritten` and `reread` are the two round trips as calls. `kind` has the
 // table of body lengths, `reader` and `writer` the records.
+#![tactic(auto)]
+
 pub mod kind; // kind.rt
 pub mod reader; // reader.rt
 pub mod writer; // writer.rt
@@ -17,14 +19,14 @@ use records::{Outcome, refusal};
 pub const LONGEST: usize = 156;
 
 // What a read gives: the plan where nothing is refused, else a plan with every number 0.
-#[derive(Drop)]
+#[derive(Clone, Copy)]
 pub struct Reading {
     pub outcome: Outcome,
     pub plan: Plan,
 }
 
 // What a write gives: the stream's length in bytes, or the refusal's number.
-#[derive(Drop)]
+#[derive(Clone, Copy)]
 pub enum WriteAnswer {
     Given(usize),
     Refused(u8),

@@ -1,5 +1,7 @@
 // Text put into a lent page: fixed byte strings, decimal numbers, and the line of a refused read. `inner` has what asks
 // for room.
+#![tactic(auto)]
+
 pub mod inner; // inner.rt
 
 ghost use Rattle.records.specs.Put.{Put};
