@@ -1,0 +1,23 @@
+-- `explore::inner::explore` meets its contract: a front is left where no filling that begins with it is better, taken
+-- where it is a filling, and else gone through by the loop, in which the next owners before this one were seen. The
+-- measure is what the front lacks of g places.
+-- Assumes nothing.
+use mathlib.Core.Path.{◌≡◌}
+use mathlib.Core.Logic.{inl, inr}
+use Prim.Native.Nat.{ℕ, ◌+◌, ◌-◌, ◌≤◌, ◌<◌}
+use native.Mathlib.Omega.{arith}
+use borrow.Author.Rules.{rules}
+use Rattle.explore.specs.Seen.{owners_of}
+use Rattle.explore.proofs.Fronts.{nodes_small, given_small}
+use Rattle.explore.proofs.Seen.{explored_left, explored_taken, Partly, partly_none, partly_more, partly_all}
+use Rattle.explore.proofs.inner.+explore.Given as goal
+
+abbrev pub invariant-loop-owner : goal.invariant-loop-owner
+invariant-loop-owner l =
+    (l.owner ≤ l.n + 1) × Partly l.trees l.g l.n (owners_of l.front) l.owner l.initial.kept l.kept
+
+abbrev pub decreases-loop-owner : goal.decreases-loop-owner
+decreases-loop-owner l = l.n + 1 - l.owner
+
+abbrev pub decreases-explore : goal.decreases-explore
+decreases-explore l = l.g - l.front.long
