@@ -7,6 +7,4 @@ pub mod Runs
 pub mod Laws
 pub mod Latency
 pub mod Same
-pub mod Values
-pub mod Walk
 pub mod Entries

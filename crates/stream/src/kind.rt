@@ -49,6 +49,7 @@ pub fn rows_length(k: usize) -> usize
 // ---- what a kind is: 0 where it is due, else the refusal, known but not due or reserved
 
 // Where the head is due.
+#[tactic(auto, unfolding(crate::specs::Kind::class_of))]
 pub fn class_for_head(kind: u8) -> u8
     ensures { result ≡ class_of head_kind kind }
 {
@@ -60,6 +61,7 @@ pub fn class_for_head(kind: u8) -> u8
 }
 
 // Where a client is due.
+#[tactic(auto, unfolding(crate::specs::Kind::class_of))]
 pub fn class_for_client(kind: u8) -> u8
     ensures { result ≡ class_of client_kind kind }
 {
@@ -71,6 +73,7 @@ pub fn class_for_client(kind: u8) -> u8
 }
 
 // Where a row is due.
+#[tactic(auto, unfolding(crate::specs::Kind::class_of))]
 pub fn class_for_row(kind: u8) -> u8
     ensures { result ≡ class_of row_kind kind }
 {
@@ -82,6 +85,7 @@ pub fn class_for_row(kind: u8) -> u8
 }
 
 // Where the end is due.
+#[tactic(auto, unfolding(crate::specs::Kind::class_of))]
 pub fn class_for_end(kind: u8) -> u8
     ensures { result ≡ class_of end_kind kind }
 {

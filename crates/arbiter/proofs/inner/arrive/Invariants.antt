@@ -1,0 +1,23 @@
+-- `arbiter::inner::arrive` meets its contract: the loop's invariant is the counts in which the first i clients'
+-- arrivals have joined, and the counts in whose first i places their rests stand. The count that a turn reads is as it
+-- was before the loop.
+-- Assumes nothing.
+use mathlib.Core.Path.{◌≡◌, refl, ◌∙◌}
+use Prim.Native.Nat.{◌-◌, ◌≤◌}
+use native.Mathlib.Omega.{arith}
+use lib.ListN.{length, get_or, length-set}
+use borrow.Author.Rules.{rules}
+use Rattle.frame.specs.Queue.{one_slot, queue}
+use Rattle.records.specs.Pieces.{onto}
+use Rattle.records.proofs.Lists.{onto_none, onto_more, onto_past}
+use Rattle.arbiter.specs.Step.{rule_for}
+use Rattle.arbiter.proofs.inner.arrive.Given as goal
+
+abbrev pub invariant-loop-i : goal.invariant-loop-i
+invariant-loop-i l =
+    (l.i ≤ l.n) × (length l.pending ≡ length l.initial.pending) × (length l.turned ≡ length l.initial.turned)
+    × (l.pending ≡ onto (λ k. queue one_slot (get_or l.initial.pending k 0) (get_or l.arrivals k 0)) l.i l.initial.pending)
+    × (l.turned ≡ onto (λ k. one_slot.turns (get_or l.initial.pending k 0) (get_or l.arrivals k 0)) l.i l.initial.turned)
+
+abbrev pub decreases-loop-i : goal.decreases-loop-i
+decreases-loop-i l = l.n - l.i

@@ -1,0 +1,14 @@
+-- `stream::kind::clients_length` meets its contract: clients' records are of one length.
+-- Assumes nothing.
+use mathlib.Core.Path.{◌≡◌, ap}
+use Prim.Native.Nat.{ℕ, ◌*◌}
+use native.Mathlib.Omega.{arith}
+use borrow.Author.Rules.{rules}
+use Rattle.stream.proofs.kind.clients_length.Goals as goal
+
+pub overflow_mul-result : goal.overflow_mul-result
+overflow_mul-result c = let w : _ ≡ 10 * c.args.k = ap (λ (n : ℕ). n * c.args.k)
+    c.whole_of.ensures.0 in omega arith
+
+pub returns : goal.returns
+returns c = ap (λ (n : ℕ). n * c.args.k) c.whole_of.ensures.0

@@ -1,0 +1,13 @@
+-- `stream::reader::check_due` meets its contract: the length of the kind due is that of the kind found wherever it
+-- matters (`due_body`).
+-- Assumes nothing.
+use mathlib.Core.Path.{◌∙◌}
+use borrow.Author.Rules.{rules}
+use Rattle.stream.proofs.Records.{due_body}
+use Rattle.stream.proofs.reader.check_due.Goals as goal
+
+pub returns : goal.returns
+returns c =
+    let a = c.args in
+    let found = rw (c.body_of.ensures.0, c.requires) at c.check_record.ensures in
+    found ∙ due_body a.s.now a.at a.due

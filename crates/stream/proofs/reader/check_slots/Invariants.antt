@@ -1,0 +1,17 @@
+-- `stream::reader::check_slots` meets its contract: the loop's invariant is that the bytes before t pass.
+-- Assumes nothing.
+use mathlib.Core.Path.{◌≡◌, sym}
+use Prim.Native.Nat.{◌-◌, ◌≤◌}
+use native.Mathlib.Omega.{arith}
+use borrow.Author.Rules.{rules}
+use Rattle.records.specs.First.{first_of}
+use Rattle.records.specs.declared.Outcome.TheVariants.{Fine}
+use Rattle.records.proofs.Checks.{first_more, first_stop}
+use Rattle.stream.specs.Read.{slot_due_check}
+use Rattle.stream.proofs.reader.check_slots.Given as goal
+
+abbrev pub invariant-loop-t : goal.invariant-loop-t
+invariant-loop-t l = (l.t ≤ 8) × (first_of (slot_due_check l.s l.f l.n l.at l.j) l.t ≡ Fine)
+
+abbrev pub decreases-loop-t : goal.decreases-loop-t
+decreases-loop-t l = 8 - l.t

@@ -1,0 +1,24 @@
+-- `stream::writer::put_clients` meets its contract: the loop's invariant is that the first i records are put.
+-- Assumes nothing.
+use mathlib.Core.Path.{◌≡◌}
+use Prim.Native.Nat.{ℕ, ◌+◌, ◌-◌, ◌≤◌, ◌<◌}
+use native.Mathlib.Omega.{arith}
+use borrow.Author.Rules.{rules}
+use borrow.Author.Count.{below_more}
+use Rattle.records.specs.Pieces.{many}
+use Rattle.records.specs.Put.{Put}
+use Rattle.records.proofs.Lists.{within_many}
+use Rattle.records.proofs.Puts.{none, then_piece, put_length}
+use Rattle.plan.specs.Plan.{client_of}
+use Rattle.stream.specs.Write.{client_record}
+use Rattle.stream.specs.Trip.{Words}
+use Rattle.stream.proofs.Lengths.{length_client}
+use Rattle.stream.proofs.writer.put_clients.Given as goal
+
+abbrev pub invariant-loop-i : goal.invariant-loop-i
+invariant-loop-i l =
+    (l.i ≤ l.n) × Put l.initial.out l.at (many (client_record l.plan) l.i) l.out l.to
+    × ((k : ℕ) → k < l.i → Words (client_of l.plan k))
+
+abbrev pub decreases-loop-i : goal.decreases-loop-i
+decreases-loop-i l = l.n - l.i
