@@ -4,20 +4,16 @@ use mathlib.Core.Path.{refl}
 use native.Mathlib.Omega.{arith}
 use borrow.Author.Rules.{rules}
 use borrow.Author.Tests.{eq-eqb, ne_eqb}
-use Rattle.search.proofs.inner.last_owner.Statement.{statement}
-use Rattle.search.proofs.inner.last_owner.Tie as tie
+use Rattle.search.proofs.inner.last_owner.Goals as goal
 
-returns : tie.Need-returns
-returns c =
-    let args = c.before.args in
+pub returns-then-node-eq1 : goal.returns-then-node-eq1
+returns-then-node-eq1 c =
+    let args = c.args in
     let e = eq-eqb args.client args.client refl in
     rw e (omega arith)
 
-returns-2 : tie.Need-returns-2
-returns-2 c =
-    let args = c.before.args in
+pub returns-else-node-eq1 : goal.returns-else-node-eq1
+returns-else-node-eq1 c =
+    let args = c.args in
     let e = ne_eqb 0 args.client (λ h. omega arith) in
     rw e (omega arith)
-
-pub last_owner_spec : {M : Type 1} → statement M
-last_owner_spec = tie.close (tie.spec (λ c. search rules) returns returns-2)

@@ -9,22 +9,10 @@ use borrow.Author.Rules.{rules}
 use lib.ListN.{length, take, drop, length-replicate, length-set}
 use Rattle.explore.specs.Needs.{node_from}
 use Rattle.search.proofs.Sets.{leads_none, leads_more, leads_all, half}
-use Rattle.search.proofs.inner.set_of.Statement.{statement}
-use Rattle.search.proofs.inner.set_of.Tie as tie
+use Rattle.search.proofs.inner.set_of.Goals as goal
 
-abbrev invariant_loop : tie.invariant-loop
-invariant_loop client g node owners₀ above₀ j₀ owners above j =
-    (j ≤ g)
-    × (length owners ≡ 8)
-    × (2 ^ j ≤ above)
-    × (above < 2 ^ (j + 1))
-    × (node_from client above (drop j (take g owners)) ≡ node)
-
-abbrev decreases_loop : tie.decreases-loop
-decreases_loop client g node owners₀ above₀ j₀ owners above j = j
-
-loop-holds : tie.Need-loop-init invariant_loop decreases_loop
-loop-holds c =
+pub loop-j-init : goal.loop-j-init
+loop-j-init c =
     let args = c.args in (
       omega arith,
       length-replicate {A = ℕ} 8 0,
@@ -33,10 +21,10 @@ loop-holds c =
       leads_none args.client args.g args.node _,
     )
 
-loop-again : tie.Need-loop-preserved invariant_loop decreases_loop
-loop-again c =
-    let args = c.before.before.before.args in
-    let loop = c.before.before.loop in
+pub loop-j-preserved : goal.loop-j-preserved
+loop-j-preserved c =
+    let args = c.args in
+    let loop = c.loop-j in
     let owners = loop.owners in
     let owner = c.last_owner.result in
     let j = loop.j - 1 in
@@ -48,26 +36,12 @@ loop-again c =
     let leads = leads_more args.client args.g args.node owners loop.above j owner (omega arith) fits in
     (omega arith, length-set owners j owner ∙ loop.invariant.1, halved.0, halved.1, leads child later)
 
-returns : tie.Need-returns invariant_loop decreases_loop
+pub returns : goal.returns
 returns c =
-    let args = c.before.before.args in
-    let loop = c.before.loop in
+    let args = c.args in
+    let loop = c.loop-j in
     let j : loop.j ≡ 0 = omega arith in
     let low = rw j at loop.invariant.2 in
     let high = rw j at loop.invariant.3 in
     let root : loop.above ≡ 1 = omega arith in
     leads_all args.client args.g args.node loop.above loop.j loop.owners j root loop.invariant.4
-
-pub set_of_spec : {M : Type 1} → statement M
-set_of_spec =
-    tie.close
-    (tie.spec
-    invariant_loop
-    decreases_loop
-    loop-holds
-    (λ c. search rules)
-    (λ c κs. search rules)
-    (λ c. search rules)
-    (λ c. search rules)
-    loop-again
-    returns)

@@ -8,22 +8,21 @@ use borrow.Author.Rules.{rules}
 use lib.ListN.{get_or}
 use Rattle.explore.proofs.Needs.{node_below}
 use Rattle.search.proofs.Planting.{leaves_small, leaves_shifted, leaves_doubled}
-use Rattle.search.proofs.inner.node_need.Statement.{statement}
-use Rattle.search.proofs.inner.node_need.Tie as tie
+use Rattle.search.proofs.inner.node_need.Goals as goal
 
-element-copy-out-least-need : tie.Need-element-copy-out-least-need
-element-copy-out-least-need c =
-    let args = c.before.args in
+pub bounds-trees-below : goal.bounds-trees-below
+bounds-trees-below c =
+    let args = c.args in
     omega (arith, leaves_shifted args.g (omega arith), leaves_small args.g (omega arith))
 
-element-copy-out-least-need-2 : tie.Need-element-copy-out-least-need-2
-element-copy-out-least-need-2 c =
-    let args = c.before.before.args in
+pub bounds-trees-below-then-x-leaves : goal.bounds-trees-below-then-x-leaves
+bounds-trees-below-then-x-leaves c =
+    let args = c.args in
     omega (arith, leaves_shifted args.g (omega arith), leaves_small args.g (omega arith))
 
-returns : tie.Need-returns
-returns c =
-    let args = c.before.before.before.before.args in
+pub returns-then-x-leaves : goal.returns-then-x-leaves
+returns-then-x-leaves c =
+    let args = c.args in
     let below = args.i * 512 + 2 * args.x in
     let trees = args.trees.now in
     let e : below + 1 ≡ args.i * 512 + (2 * args.x + 1) = omega arith in
@@ -32,26 +31,23 @@ returns c =
       leaf = λ low. absurd (omega (arith, leaves_shifted args.g (omega arith)));
     }
 
-leaf-requires : tie.Need-leaf-requires
-leaf-requires c κs =
-    let args = c.before.before.args in
+pub leaf-requires : goal.leaf-requires
+leaf-requires c =
+    let args = c.args in
     let leaves = leaves_shifted args.g (omega arith) in
-    let start = c.before.before.requires in (
-      (start.0, start.1, start.2, start.3, start.4),
-      (omega (arith, leaves), omega (arith, leaves, leaves_doubled args.g)),
-    )
+    let start = c.requires in record { le_f = (start.0, start.1, start.2, start.3, start.4); g_bound = (omega (arith, leaves), omega (arith, leaves, leaves_doubled args.g)) }
 
-returns-2 : tie.Need-returns-2
-returns-2 c =
-    let args = c.before.before.before.args in
+pub returns-then-x-leaves-2 : goal.returns-then-x-leaves-2
+returns-then-x-leaves-2 c =
+    let args = c.args in
     record {
       above = λ x> x<. absurd (omega (arith, leaves_shifted args.g (omega arith)));
       leaf = λ low. c.leaf.ensures;
     }
 
-returns-3 : tie.Need-returns-3
-returns-3 c =
-    let args = c.before.before.args in
+pub returns : goal.returns
+returns c =
+    let args = c.args in
     let leaves = leaves_shifted args.g (omega arith) in
     let past = leaves_doubled args.g in
     record {
@@ -59,21 +55,3 @@ returns-3 c =
       leaf = λ low owners long leads.
           absurd (omega (arith, leaves, past, leads, node_below (args.i + 1) owners (args.g + 1) (omega arith)));
     }
-
-pub node_need_spec : {M : Type 1} → statement M
-node_need_spec =
-    tie.close
-    (tie.spec
-    (λ c. search rules)
-    (λ c. search rules)
-    (λ c. search rules)
-    (λ c. search rules)
-    element-copy-out-least-need
-    (λ c. search rules)
-    element-copy-out-least-need-2
-    (λ c κs. search rules)
-    returns
-    (λ c. search rules)
-    leaf-requires
-    returns-2
-    returns-3)

@@ -1,0 +1,15 @@
+-- `search::inner::plant` meets its contract: the numbers from z on are right.
+-- Assumes nothing.
+use mathlib.Core.Path.{◌≡◌, ◌∙◌}
+use Prim.Native.Nat.{ℕ, ◌+◌, ◌-◌, ◌*◌, ◌≤◌}
+use native.Mathlib.Omega.{arith}
+use borrow.Author.Rules.{rules}
+use lib.ListN.{length, length-replicate, length-set}
+use Rattle.search.proofs.Planting.{RightFrom, right_more}
+use Rattle.search.proofs.inner.plant.Given as goal
+
+abbrev pub invariant-loop-z : goal.invariant-loop-z
+invariant-loop-z l = (l.z ≤ l.plan.n * 512) × (length l.trees ≡ 4096) × RightFrom l.plan l.g l.plan.n l.trees l.z
+
+abbrev pub decreases-loop-z : goal.decreases-loop-z
+decreases-loop-z l = l.z
