@@ -25,6 +25,8 @@ use Rattle.plan.specs.Check.{requirements_check, plan_check, asked_check}
 use Rattle.stream.specs.Read.{plan_of, plan_if, read_check, read_of}
 use Rattle.stream.specs.Write.{write_said}
 use Rattle.stream.specs.Entries.{read_numbers}
+use Rattle.search.specs.Entries.{search_numbers}
+use Rattle.arbiter.specs.Entries.{step_numbers}
 use Rattle.stream.proofs.Refusals.{read_gives, copy_gives}
 use Rattle.stream.proofs.Entries.{rewritten_tight}
 use Rattle.figures.specs.Check.{figure_check, wait_check}
@@ -41,7 +43,7 @@ use Rattle.arbiter.proofs.Entries.{step_tight}
 use Rattle.listing.specs.Entries.{report_entry, homing_entry}
 use Rattle.capi.specs.Calls.{first_number, ToldRead, Told, ToldWrite, emptied, IsSearchedFor, found_stream}
 use Rattle.capi.specs.Calls.{ToldSearch, record_in, record_bytes, served_bytes, ToldStep}
-use Rattle.capi.specs.Entries.{read_then, tells, c_read_entry, c_figures_entry, c_wait_entry, c_default_entry}
+use Rattle.capi.specs.Entries.{read_and, read_then, tells, c_read_entry, c_figures_entry, c_wait_entry, c_default_entry}
 use Rattle.capi.specs.Entries.{c_judge_entry, c_verdict_entry, c_search_entry, c_write_entry, c_step_entry}
 use Rattle.capi.proofs.gwelathur_read.Reads as c_read
 use Rattle.capi.proofs.gwelathur_figures.Reads as c_figures
@@ -241,8 +243,8 @@ c_search_tight =
           subst (λ (a : Searched). Put out 0 (found_stream (read_of s).plan a.answer a.owners) r.2 r.1)
           (answer.refused k offset e).2 h.put in
           all_three (h.returned ∙ answer.number ∙ ap number_of e) put.place put.stored;
-      numbers = read_then_gives (λ plan out. search_check (emptied plan)) _ _ (λ plan out. search_gives (emptied plan))
-          refl refl;
+      numbers = read_then_gives (λ plan out. search_check (emptied plan)) search_numbers (read_and (16 ∷ []))
+          (λ plan out. search_gives (emptied plan)) refl refl;
       nonzero = refl;
       unread = λ s t e out r. subst (λ v. ToldSearch v out r.0 r.1 r.2) e;
     }
@@ -293,7 +295,8 @@ c_step_tight =
           all_three (h.returned ∙ answer.number ∙ ap number_of e)
           (h.kept ∙ ap (λ (a : Stepped). record_bytes a.next) a.2 ∙ record_same x.0 nine)
           (h.stored ∙ ap (λ (a : Stepped). served_bytes a.served) a.2);
-      numbers = read_then_gives (λ plan x. step_check plan (record_in x.0).position (length x.1)) _ _
+      numbers = read_then_gives (λ plan x. step_check plan (record_in x.0).position (length x.1)) step_numbers
+          (read_and (17 ∷ 18 ∷ []))
           (λ plan x. step_gives plan (record_in x.0).position (length x.1)) refl refl;
       nonzero = refl;
       unread = λ s t e x r. subst (λ v. ToldStep v x.0 x.1 r.0 r.1 r.2) e;

@@ -1,7 +1,7 @@
-// The library for C callers; include/gwelathur.h declares it. A plan is handed in as the bytes of its stream, a slice,
-// which C passes as pointer and length; every number is a usize; answers are stored in lent numbers and in arrays of
-// fixed size, which C passes as pointers. Each function returns the refusal's number, 0 where nothing is refused; the
-// two that write text return its length. `inner` stores the answers.
+// The library for C callers; include/gwelathur.h declares it, and `capi_c` exports it. A plan is handed in as the bytes of
+// its stream, a slice, which C passes as pointer and length; every number is a usize; answers are stored in lent numbers
+// and in arrays of fixed size, which C passes as pointers. Each function returns the refusal's number, 0 where nothing is
+// refused; the two that write text return its length. `inner` stores the answers.
 #![tactic(auto)]
 
 pub mod inner; // inner.rt
@@ -28,8 +28,7 @@ use text::PAGE;
 pub const RECORD: usize = 9;
 
 // Reads and checks a plan: the refusal's offset.
-#[unsafe(no_mangle)]
-pub extern "C" fn gwelathur_read(s: &[u8], offset: &mut usize) -> usize
+pub fn gwelathur_read(s: &[u8], offset: &mut usize) -> usize
     ensures { ToldRead s.now result offset.new }
 {
     let reading = stream::read(s);
@@ -38,13 +37,7 @@ pub extern "C" fn gwelathur_read(s: &[u8], offset: &mut usize) -> usize
 }
 
 // A client's slots m and its scaled latency L.
-#[unsafe(no_mangle)]
-pub extern "C" fn gwelathur_figures(
-    s: &[u8],
-    client: usize,
-    slots: &mut usize,
-    scaled: &mut usize,
-) -> usize
+pub fn gwelathur_figures(s: &[u8], client: usize, slots: &mut usize, scaled: &mut usize) -> usize
     ensures { Told (λ plan. IsFigures plan client) figure_said no_figure figure_values s.now result
         (slots.new ∷ scaled.new ∷ []) }
 {
@@ -56,8 +49,7 @@ pub extern "C" fn gwelathur_figures(
 }
 
 // A client's wait for this many waiting requests.
-#[unsafe(no_mangle)]
-pub extern "C" fn gwelathur_wait(s: &[u8], client: usize, waiting: usize, wait: &mut usize) -> usize
+pub fn gwelathur_wait(s: &[u8], client: usize, waiting: usize, wait: &mut usize) -> usize
     ensures { Told (λ plan. IsWaitFor plan client waiting) wait_said 0 wait_values s.now result
         (wait.new ∷ []) }
 {
@@ -69,8 +61,7 @@ pub extern "C" fn gwelathur_wait(s: &[u8], client: usize, waiting: usize, wait: 
 }
 
 // A client's wait, asked without a number.
-#[unsafe(no_mangle)]
-pub extern "C" fn gwelathur_default_wait(s: &[u8], client: usize, wait: &mut usize) -> usize
+pub fn gwelathur_default_wait(s: &[u8], client: usize, wait: &mut usize) -> usize
     ensures { Told (λ plan. IsWaitFor plan client default_waiting) wait_said 0 wait_values s.now result
         (wait.new ∷ []) }
 {
@@ -78,8 +69,7 @@ pub extern "C" fn gwelathur_default_wait(s: &[u8], client: usize, wait: &mut usi
 }
 
 // Judges a plan: the first client that is not ok, its verdict and, if late, its first stretch.
-#[unsafe(no_mangle)]
-pub extern "C" fn gwelathur_judge(
+pub fn gwelathur_judge(
     s: &[u8],
     client: &mut usize,
     verdict: &mut usize,
@@ -100,8 +90,7 @@ pub extern "C" fn gwelathur_judge(
 }
 
 // A client's verdict.
-#[unsafe(no_mangle)]
-pub extern "C" fn gwelathur_verdict(s: &[u8], client: usize, verdict: &mut usize) -> usize
+pub fn gwelathur_verdict(s: &[u8], client: usize, verdict: &mut usize) -> usize
     ensures { Told (λ plan. IsVerdictOf plan client) verdict_said Ok verdict_values s.now result
         (verdict.new ∷ []) }
 {
@@ -114,8 +103,7 @@ pub extern "C" fn gwelathur_verdict(s: &[u8], client: usize, verdict: &mut usize
 
 // Searches for a plan's frame and requirements, and writes the plan with the table found; its length is 0 for none.
 // What is refused is refused here, before room is made for the trees of the search.
-#[unsafe(no_mangle)]
-pub extern "C" fn gwelathur_search(s: &[u8], out: &mut [u8; LONGEST], length: &mut usize) -> usize
+pub fn gwelathur_search(s: &[u8], out: &mut [u8; LONGEST], length: &mut usize) -> usize
     ensures { ToldSearch s.now out.old result length.new out.new }
 {
     let reading = stream::read(s);
@@ -132,13 +120,8 @@ pub extern "C" fn gwelathur_search(s: &[u8], out: &mut [u8; LONGEST], length: &m
     gwelathur_search_whole(s, out, length)
 }
 
-// The same in one. It is exported so that the compiler keeps its stack apart; C calls the one above.
-#[unsafe(no_mangle)]
-pub extern "C" fn gwelathur_search_whole(
-    s: &[u8],
-    out: &mut [u8; LONGEST],
-    length: &mut usize,
-) -> usize
+// The same in one. `capi_c` exports it so that the compiler keeps its stack apart; C calls the one above.
+pub fn gwelathur_search_whole(s: &[u8], out: &mut [u8; LONGEST], length: &mut usize) -> usize
     ensures { ToldSearch s.now out.old result length.new out.new }
 {
     let reading = stream::read(s);
@@ -150,8 +133,7 @@ pub extern "C" fn gwelathur_search_whole(
 }
 
 // Reads a plan and writes it back: the stream's own bytes, and their number.
-#[unsafe(no_mangle)]
-pub extern "C" fn gwelathur_write(s: &[u8], out: &mut [u8], length: &mut usize) -> usize
+pub fn gwelathur_write(s: &[u8], out: &mut [u8], length: &mut usize) -> usize
     ensures { ToldWrite s.now out.old result length.new out.new }
 {
     let answer = stream::rewritten(s, out);
@@ -160,8 +142,7 @@ pub extern "C" fn gwelathur_write(s: &[u8], out: &mut [u8], length: &mut usize) 
 
 // One step of the arbiter. Its record is the position and eight counts; the answer is the client served, or 0, and
 // eight turned-away counts.
-#[unsafe(no_mangle)]
-pub extern "C" fn gwelathur_step(
+pub fn gwelathur_step(
     s: &[u8],
     arbiter: &mut [u8; RECORD],
     arrivals: &[u8],
@@ -179,8 +160,7 @@ pub extern "C" fn gwelathur_step(
 }
 
 // The report's text, at the front of a page.
-#[unsafe(no_mangle)]
-pub extern "C" fn gwelathur_report(s: &[u8], page: &mut [u8; PAGE]) -> usize
+pub fn gwelathur_report(s: &[u8], page: &mut [u8; PAGE]) -> usize
     ensures puts { Puts (IsReport s.now) page.old 0 page.new result }
     ensures lendable { Lendable result page.new }
 {
@@ -188,8 +168,7 @@ pub extern "C" fn gwelathur_report(s: &[u8], page: &mut [u8; PAGE]) -> usize
 }
 
 // The homing listing's text, at the front of a page.
-#[unsafe(no_mangle)]
-pub extern "C" fn gwelathur_homing(s: &[u8], page: &mut [u8; PAGE]) -> usize
+pub fn gwelathur_homing(s: &[u8], page: &mut [u8; PAGE]) -> usize
     ensures puts { Puts (IsHoming s.now) page.old 0 page.new result }
     ensures lendable { Lendable result page.new }
 {

@@ -1,0 +1,14 @@
+-- `capi::gwelathur_judge` meets its contract: what the library answers of the plan that was read is told.
+-- Assumes nothing.
+use mathlib.Core.Path.{refl}
+use borrow.Author.Rules.{rules}
+use Rattle.capi.proofs.Laws.{told, listed}
+use Rattle.capi.proofs.gwelathur_judge.Goals as goal
+
+pub returns : goal.returns
+returns c =
+    let asked = c.judge-answer in
+    let read = c.read-reading in
+    let tell = c.tell_judged.ensures in
+    let stored = listed tell.1 (listed tell.2 (listed tell.3 (listed tell.4 refl))) in
+    told asked.result read.ensures.is asked.ensures tell.0 c.first_number.ensures stored

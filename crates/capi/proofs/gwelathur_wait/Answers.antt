@@ -1,0 +1,14 @@
+-- `capi::gwelathur_wait` meets its contract: what the library answers of the plan that was read is told.
+-- Assumes nothing.
+use mathlib.Core.Path.{refl}
+use borrow.Author.Rules.{rules}
+use Rattle.capi.proofs.Laws.{told, listed}
+use Rattle.capi.proofs.gwelathur_wait.Goals as goal
+
+pub returns : goal.returns
+returns c =
+    let asked = c.wait_for-answer in
+    let read = c.read-reading in
+    let tell = c.tell_wait.ensures in
+    let stored = listed tell.1 refl in
+    told asked.result read.ensures.is asked.ensures tell.0 c.first_number.ensures stored
