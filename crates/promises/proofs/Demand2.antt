@@ -28,6 +28,8 @@ use Rattle.stream.proofs.Lengths.{length_stream, stream_sizes}
 use Rattle.stream.proofs.ReadBack.{read_back as stream_read_back}
 use Rattle.stream.proofs.Answers.{read_rewritten, reading_checked}
 use Rattle.stream.proofs.Refusals.{read_gives}
+use Rattle.plan.specs.Entries.{plan_numbers}
+use Rattle.stream.specs.Entries.{read_numbers}
 use Rattle.figures.specs.declared.Figure.{Figure}
 use Rattle.figures.specs.declared.FigureAnswer.TheVariants as figures
 use Rattle.figures.specs.declared.WaitAnswer.TheVariants as wait
@@ -43,7 +45,7 @@ use Rattle.arbiter.proofs.Latency.{least_empty_runs, latency_runs}
 -- a read that is not refused
 not_refused : (s : List ℕ) → number_of (read_of s).outcome ≡ 0 → (read_of s).outcome ≡ Fine
 unfolding read_of
-not_refused s h = gives_fine _ refl _ (read_gives s) h
+not_refused s h = gives_fine read_numbers refl _ (read_gives s) h
 
 -- what is read is written back byte for byte
 pub written_back : (s : List ℕ) → Bytes s → number_of (read_of s).outcome ≡ 0 → stream_of (read_of s).plan ≡ s
@@ -61,7 +63,7 @@ pub record ReadBack (plan : Plan) (r : Reading) : Type 0 where
 
 pub read_back : (plan : Plan) → Held plan → number_of (plan_check plan) ≡ 0 → ReadBack plan (read_of (stream_of plan))
 read_back plan held h =
-    let e = stream_read_back plan held (gives_fine _ refl _ (plan_gives plan) h) in
+    let e = stream_read_back plan held (gives_fine plan_numbers refl _ (plan_gives plan) h) in
     rw e (record { number = refl; same = used_same plan; zeros = refl })
 
 -- "Plans are the same when f, n and the used places agree": they are read back as one
@@ -77,7 +79,7 @@ pub record Sized (plan : Plan) : Type 0 where
 
 pub sized : (plan : Plan) → number_of (plan_check plan) ≡ 0 → Sized plan
 sized plan h =
-    let b = stream_sizes plan (gives_fine _ refl _ (plan_gives plan) h) in
+    let b = stream_sizes plan (gives_fine plan_numbers refl _ (plan_gives plan) h) in
     record { exact = length_stream plan; least = b.0; most = b.1 }
 
 -- ---- figures
