@@ -7,29 +7,36 @@ mod case; // case.rt
 mod ops; // ops.rt
 mod reply; // reply.rt
 
-use libc::{STDIN_FILENO, STDOUT_FILENO};
+use input::read_full;
+use std::io;
+use std::io::{Read, Write};
 use text::PAGE;
 
-// The front of a page is written; false where it can't be.
-fn send(page: &[u8; PAGE], size: usize) -> bool {
-    io::write_all(STDOUT_FILENO, case::part(page, 0, size))
+// The front of a page is written.
+fn send<W: Write>(to: &mut W, page: &[u8; PAGE], size: usize) -> io::Result<()> {
+    to.write_all(case::part(page, 0, size))
 }
 
-// One case is read and its reply written; false where no whole case is left, or the reply can't be written.
-fn answer_one() -> bool {
+// One case is read and its reply written; false where no whole case is left.
+fn answer_one<R: Read, W: Write>(from: &mut R, to: &mut W) -> io::Result<bool> {
     let mut case = [0u8; case::SIZE];
-    if io::read_full(STDIN_FILENO, &mut case) < case::SIZE {
-        return false;
+    if read_full(from, &mut case)? < case::SIZE {
+        return Ok(false);
     }
     let mut page = [0u8; PAGE];
     let size = ops::put_reply(&mut page, &case);
-    send(&page, size)
+    send(to, &page, size)?;
+    Ok(true)
 }
 
-// Case by case. A proved loop has to end, so the turns are counted down, from a number that no input uses up.
-fn main() {
-    let mut turns = u64::MAX;
-    while turns > 0 && answer_one() {
-        turns -= 1;
+// Case by case. A proved loop has to end, so the turns are counted, up to a number that no input uses up.
+fn main(rt: HostRuntime) -> io::Result<()> {
+    let mut from = rt.stdin();
+    let mut to = rt.stdout();
+    for _ in 0..u64::MAX {
+        if !answer_one(&mut from, &mut to)? {
+            break;
+        }
     }
+    Ok(())
 }

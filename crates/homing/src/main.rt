@@ -2,12 +2,14 @@
 // standard output.
 #![tactic(auto)]
 
-use libc::{STDIN_FILENO, STDOUT_FILENO};
+use input::read_full;
+use std::io;
+use std::io::Write;
 
-fn main() {
-    let mut stream = io::buffer();
-    let size = io::read_full(STDIN_FILENO, &mut stream);
+fn main(rt: HostRuntime) -> io::Result<()> {
+    let mut stream = [0u8; 4096];
+    let size = read_full(&mut rt.stdin(), &mut stream)?;
     let mut page = [0u8; text::PAGE];
     let length = listing::homing(&stream[..size], &mut page);
-    io::write_all(STDOUT_FILENO, &page[..length]);
+    rt.stdout().write_all(&page[..length])
 }
