@@ -1,7 +1,6 @@
 -- `arbiter::step` meets its contract: the checks decide where they refuse, else the slot's work is the answer.
 -- Assumes nothing.
 use mathlib.Core.Path.{sym, ◌∙◌}
-use borrow.Author.Rules.{rules}
 use Rattle.arbiter.proofs.Slots.{step_refused, step_advances}
 use Rattle.arbiter.proofs.step.Goals as goal
 

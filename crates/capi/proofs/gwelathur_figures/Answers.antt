@@ -1,7 +1,6 @@
 -- `capi::gwelathur_figures` meets its contract: what the library answers of the plan that was read is told.
 -- Assumes nothing.
 use mathlib.Core.Path.{refl}
-use borrow.Author.Rules.{rules}
 use Rattle.capi.proofs.Laws.{told, listed}
 use Rattle.capi.proofs.gwelathur_figures.Goals as goal
 

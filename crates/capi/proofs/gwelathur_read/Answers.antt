@@ -1,7 +1,6 @@
 -- `capi::gwelathur_read` meets its contract: the outcome is that of the reading.
 -- Assumes nothing.
 use mathlib.Core.Path.{ap, ◌∙◌}
-use borrow.Author.Rules.{rules}
 use Rattle.records.specs.First.{number_of, offset_of}
 use Rattle.stream.specs.declared.Reading.{Reading}
 use Rattle.capi.proofs.gwelathur_read.Goals as goal

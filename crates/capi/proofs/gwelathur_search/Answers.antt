@@ -1,7 +1,6 @@
 -- `capi::gwelathur_search` meets its contract: what the checks refuse is told as the search's own refusal, and all else
 -- is what `gwelathur_search_whole` tells.
 -- Assumes nothing.
-use borrow.Author.Rules.{rules}
 use Rattle.capi.proofs.Laws.{refused_answer, told_refused}
 use Rattle.capi.proofs.gwelathur_search.Goals as goal
 

@@ -1,6 +1,5 @@
 -- `capi::gwelathur_search_whole` meets its contract: what the search answers of the requirements read is told.
 -- Assumes nothing.
-use borrow.Author.Rules.{rules}
 use Rattle.capi.proofs.Laws.{told_search}
 use Rattle.capi.proofs.gwelathur_search_whole.Goals as goal
 

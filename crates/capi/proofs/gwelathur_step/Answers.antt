@@ -1,6 +1,5 @@
 -- `capi::gwelathur_step` meets its contract: the step on the plan that was read is told.
 -- Assumes nothing.
-use borrow.Author.Rules.{rules}
 use Rattle.capi.proofs.Laws.{told_step, step_small}
 use Rattle.capi.proofs.gwelathur_step.Goals as goal
 

@@ -2,7 +2,6 @@
 -- asked about.
 -- Assumes nothing.
 use mathlib.Core.Path.{refl, sym, ◌∙◌}
-use borrow.Author.Rules.{rules}
 use Rattle.records.proofs.Checks.{refuses, stops}
 use Rattle.figures.specs.Check.{figure_check}
 use Rattle.figures.proofs.figure_of.Goals as goal

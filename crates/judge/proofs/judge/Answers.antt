@@ -1,7 +1,6 @@
 -- `judge::judge` meets its contract: the plan's checks decide where they refuse, else it says where judging stopped.
 -- Assumes nothing.
 use mathlib.Core.Path.{sym, ◌∙◌}
-use borrow.Author.Rules.{rules}
 use Rattle.records.proofs.Checks.{refuses}
 use Rattle.plan.proofs.Laws.{plan_fine}
 use Rattle.judge.proofs.judge.Goals as goal

@@ -2,7 +2,6 @@
 -- Assumes nothing.
 use mathlib.Core.Path.{sym, ◌∙◌}
 use native.Mathlib.Omega.{arith}
-use borrow.Author.Rules.{rules}
 use Rattle.records.proofs.Checks.{refuses}
 use Rattle.plan.proofs.Laws.{asked_fine}
 use Rattle.judge.proofs.verdict_of.Goals as goal

@@ -1,6 +1,5 @@
 -- `listing::homing` meets its contract: a refused read is its one line; else the text of the plan is put.
 -- Assumes nothing.
-use borrow.Author.Rules.{rules}
 use Rattle.stream.proofs.Answers.{reading_checked}
 use Rattle.listing.specs.Listing.{IsHomingOf}
 use Rattle.listing.proofs.Laws.{refused_put, plan_put}

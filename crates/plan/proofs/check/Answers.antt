@@ -1,7 +1,6 @@
 -- `plan::check` meets its contract: the requirements decide where they refuse, else the owners.
 -- Assumes nothing.
 use mathlib.Core.Path.{sym, ◌∙◌}
-use borrow.Author.Rules.{rules}
 use Rattle.records.proofs.Checks.{stops, passes}
 use Rattle.plan.specs.Check.{plan_check}
 use Rattle.plan.proofs.Laws.{requirements_fine}

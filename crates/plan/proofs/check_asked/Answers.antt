@@ -1,6 +1,5 @@
 -- `plan::check_asked` meets its contract: it is the first refusal of the two checks.
 -- Assumes nothing.
-use borrow.Author.Rules.{rules}
 use Rattle.plan.specs.Check.{asked_check}
 use Rattle.plan.proofs.check_asked.Goals as goal
 

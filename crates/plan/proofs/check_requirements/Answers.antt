@@ -1,7 +1,6 @@
 -- `plan::check_requirements` meets its contract: the first of its three checks that refuses decides.
 -- Assumes nothing.
 use mathlib.Core.Path.{sym, ◌∙◌}
-use borrow.Author.Rules.{rules}
 use Rattle.records.specs.Refusal as refusal
 use Rattle.records.proofs.Checks.{range_fine, stops, passes}
 use Rattle.plan.specs.Check.{requirements_check}

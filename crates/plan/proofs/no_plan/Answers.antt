@@ -1,6 +1,5 @@
 -- `plan::no_plan` meets its contract: its clients are `no_client`, eight times.
 -- Assumes nothing.
-use borrow.Author.Rules.{rules}
 use Rattle.plan.proofs.no_plan.Goals as goal
 
 pub returns : goal.returns

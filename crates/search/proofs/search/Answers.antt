@@ -4,7 +4,6 @@
 use mathlib.Core.Path.{refl, sym, ◌∙◌}
 use mathlib.Core.Bool.{false}
 use native.Mathlib.Omega.{arith}
-use borrow.Author.Rules.{rules}
 use Rattle.records.proofs.Checks.{refuses}
 use Rattle.search.specs.Search.{idle_plan, AcceptedIn, Finds}
 use Rattle.search.proofs.Questions.{search_fine}

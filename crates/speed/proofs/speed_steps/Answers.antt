@@ -1,7 +1,6 @@
 -- The inner steps are asked for only where the checks pass.
 -- Assumes nothing.
 use mathlib.Core.Path.{sym, ◌∙◌}
-use borrow.Author.Rules.{rules}
 use Rattle.speed.proofs.speed_steps.Goals as goal
 
 pub steps-stepped-requires : goal.steps-stepped-requires

@@ -3,7 +3,6 @@
 -- Assumes nothing.
 use mathlib.Core.Path.{sym, ◌∙◌}
 use native.Mathlib.Omega.{arith}
-use borrow.Author.Rules.{rules}
 use Rattle.stream.proofs.Answers.{read_given, read_refused, read_rewritten}
 use Rattle.stream.proofs.read.Goals as goal
 

@@ -4,7 +4,6 @@
 use mathlib.Core.Path.{refl, sym}
 use lib.ListN.{replicate}
 use lib.Seq.{length-take-le}
-use borrow.Author.Rules.{rules}
 use Rattle.stream.specs.Write.{longest}
 use Rattle.stream.proofs.Trips.{fitted, reread_given, reread_refused}
 use Rattle.stream.proofs.reread.Goals as goal

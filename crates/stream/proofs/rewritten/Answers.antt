@@ -1,6 +1,5 @@
 -- `stream::rewritten` meets its contract: the read's refusal, or what the write gives of the plan read.
 -- Assumes nothing.
-use borrow.Author.Rules.{rules}
 use Rattle.stream.proofs.Trips.{copy_refused, copied}
 use Rattle.stream.proofs.rewritten.Goals as goal
 

@@ -5,7 +5,6 @@ use Prim.Native.Nat.{◌≤◌}
 use native.Mathlib.Nat.{zero-add}
 use native.Mathlib.Omega.{arith}
 use lib.ListN.{length, drop}
-use borrow.Author.Rules.{rules}
 use Rattle.records.proofs.Puts.{put_front}
 use Rattle.plan.proofs.Laws.{plan_fine}
 use Rattle.stream.specs.Write.{stream_of}

@@ -2,7 +2,6 @@
 -- position goes on.
 -- Assumes nothing.
 use native.Mathlib.Omega.{arith}
-use borrow.Author.Rules.{rules}
 use Rattle.arbiter.proofs.Questions.{step_fine}
 use Rattle.arbiter.proofs.Slots.{advances}
 use Rattle.arbiter.proofs.inner.advance.Goals as goal

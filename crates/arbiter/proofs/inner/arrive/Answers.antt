@@ -3,12 +3,8 @@
 -- was before the loop.
 -- Assumes nothing.
 use mathlib.Core.Path.{◌≡◌, refl, ◌∙◌}
-use Prim.Native.Nat.{◌-◌, ◌≤◌}
 use native.Mathlib.Omega.{arith}
-use lib.ListN.{length, get_or, length-set}
-use borrow.Author.Rules.{rules}
-use Rattle.frame.specs.Queue.{one_slot, queue}
-use Rattle.records.specs.Pieces.{onto}
+use lib.ListN.{get_or, length-set}
 use Rattle.records.proofs.Lists.{onto_none, onto_more, onto_past}
 use Rattle.arbiter.specs.Step.{rule_for}
 use Rattle.arbiter.proofs.inner.arrive.Goals as goal

@@ -2,15 +2,11 @@
 -- arrivals have joined, and the counts in whose first i places their rests stand. The count that a turn reads is as it
 -- was before the loop.
 -- Assumes nothing.
-use mathlib.Core.Path.{◌≡◌, refl, ◌∙◌}
+use mathlib.Core.Path.{◌≡◌}
 use Prim.Native.Nat.{◌-◌, ◌≤◌}
-use native.Mathlib.Omega.{arith}
-use lib.ListN.{length, get_or, length-set}
-use borrow.Author.Rules.{rules}
+use lib.ListN.{length, get_or}
 use Rattle.frame.specs.Queue.{one_slot, queue}
 use Rattle.records.specs.Pieces.{onto}
-use Rattle.records.proofs.Lists.{onto_none, onto_more, onto_past}
-use Rattle.arbiter.specs.Step.{rule_for}
 use Rattle.arbiter.proofs.inner.arrive.Given as goal
 
 abbrev pub invariant-loop-i : goal.invariant-loop-i

@@ -1,6 +1,5 @@
 -- `arbiter::inner::check_step` meets its contract: it is the first refusal of the three checks.
 -- Assumes nothing.
-use borrow.Author.Rules.{rules}
 use Rattle.arbiter.specs.Step.{step_check}
 use Rattle.arbiter.proofs.inner.check_step.Goals as goal
 

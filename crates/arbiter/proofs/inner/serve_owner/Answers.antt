@@ -2,7 +2,6 @@
 -- one place is set to one less.
 -- Assumes nothing.
 use native.Mathlib.Omega.{arith}
-use borrow.Author.Rules.{rules}
 use Rattle.arbiter.proofs.Slots.{served_idle, served_owner, served_nobody, less_none, less_some}
 use Rattle.arbiter.proofs.inner.serve_owner.Goals as goal
 

@@ -1,7 +1,6 @@
 -- `bench::case::clients` is safe and returns: nothing has to hold from client to client.
 -- Assumes nothing.
 use Prim.Native.Nat.{◌-◌}
-use borrow.Author.Rules.{rules}
 use Rattle.bench.proofs.case.clients.Given as goal
 
 abbrev pub invariant-loop-i : goal.invariant-loop-i

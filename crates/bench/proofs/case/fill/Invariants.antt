@@ -2,7 +2,6 @@
 -- Assumes nothing.
 use mathlib.Core.Path.{◌≡◌}
 use Prim.Native.Nat.{◌-◌}
-use borrow.Author.Rules.{rules}
 use lib.ListN.{length}
 use Rattle.bench.proofs.case.fill.Given as goal
 

@@ -1,7 +1,6 @@
 -- `capi::inner::tell_judged` meets its contract: the numbers of either case are those stored.
 -- Assumes nothing.
 use mathlib.Core.Path.{refl}
-use borrow.Author.Rules.{rules}
 use Rattle.capi.proofs.inner.tell_judged.Goals as goal
 
 pub returns-in-Given : goal.returns-in-Given

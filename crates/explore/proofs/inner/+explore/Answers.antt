@@ -4,12 +4,10 @@
 -- Assumes nothing.
 use mathlib.Core.Path.{◌≡◌}
 use mathlib.Core.Logic.{inl, inr}
-use Prim.Native.Nat.{ℕ, ◌+◌, ◌-◌, ◌≤◌, ◌<◌}
+use Prim.Native.Nat.{◌+◌}
 use native.Mathlib.Omega.{arith}
-use borrow.Author.Rules.{rules}
-use Rattle.explore.specs.Seen.{owners_of}
 use Rattle.explore.proofs.Fronts.{nodes_small, given_small}
-use Rattle.explore.proofs.Seen.{explored_left, explored_taken, Partly, partly_none, partly_more, partly_all}
+use Rattle.explore.proofs.Seen.{explored_left, explored_taken, partly_none, partly_more, partly_all}
 use Rattle.explore.proofs.inner.+explore.Goals as goal
 
 pub need-more-requires : goal.need-more-requires

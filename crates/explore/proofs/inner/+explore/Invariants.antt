@@ -2,14 +2,9 @@
 -- where it is a filling, and else gone through by the loop, in which the next owners before this one were seen. The
 -- measure is what the front lacks of g places.
 -- Assumes nothing.
-use mathlib.Core.Path.{◌≡◌}
-use mathlib.Core.Logic.{inl, inr}
-use Prim.Native.Nat.{ℕ, ◌+◌, ◌-◌, ◌≤◌, ◌<◌}
-use native.Mathlib.Omega.{arith}
-use borrow.Author.Rules.{rules}
+use Prim.Native.Nat.{◌+◌, ◌-◌, ◌≤◌}
 use Rattle.explore.specs.Seen.{owners_of}
-use Rattle.explore.proofs.Fronts.{nodes_small, given_small}
-use Rattle.explore.proofs.Seen.{explored_left, explored_taken, Partly, partly_none, partly_more, partly_all}
+use Rattle.explore.proofs.Seen.{Partly}
 use Rattle.explore.proofs.inner.+explore.Given as goal
 
 abbrev pub invariant-loop-owner : goal.invariant-loop-owner

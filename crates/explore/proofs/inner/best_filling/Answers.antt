@@ -2,7 +2,6 @@
 -- and ends with all of them seen.
 -- Assumes nothing.
 use native.Mathlib.Omega.{arith}
-use borrow.Author.Rules.{rules}
 use Rattle.explore.proofs.Fronts.{front_none}
 use Rattle.explore.proofs.Seen.{explored_all}
 use Rattle.explore.proofs.inner.best_filling.Goals as goal

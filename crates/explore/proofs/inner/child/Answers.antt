@@ -1,7 +1,6 @@
 -- `explore::inner::child` meets its contract: each branch's test is the definition's.
 -- Assumes nothing.
 use native.Mathlib.Nat.{add-zero}
-use borrow.Author.Rules.{rules}
 use borrow.Author.Tests.{eq-eqb, ne_eqb}
 use Rattle.explore.proofs.inner.child.Goals as goal
 

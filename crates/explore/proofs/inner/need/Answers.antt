@@ -1,11 +1,8 @@
 -- `explore::inner::need` meets its contract: the loop has added what the first i clients need.
 -- Assumes nothing.
 use mathlib.Core.Path.{◌≡◌, sym}
-use Prim.Native.Nat.{◌-◌, ◌*◌, ◌≤◌}
 use native.Mathlib.Omega.{arith}
-use borrow.Author.Rules.{rules}
 use lib.ListN.{get_or}
-use Rattle.explore.specs.Needs.{need_of}
 use Rattle.explore.proofs.Needs.{need_none, need_more}
 use Rattle.explore.proofs.inner.need.Goals as goal
 

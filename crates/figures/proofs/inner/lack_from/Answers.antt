@@ -2,9 +2,7 @@
 -- client's slots in a stretch of j, and the place in the frame where it ends.
 -- Assumes nothing.
 use mathlib.Core.Path.{◌≡◌, refl, ◌∙◌}
-use Prim.Native.Nat.{◌+◌, ◌-◌, ◌%◌, ◌≤◌}
 use native.Mathlib.Omega.{arith}
-use borrow.Author.Rules.{rules}
 use lib.ListN.{get_or}
 use Rattle.frame.specs.Frame.{within}
 use Rattle.frame.specs.Largest.{largest, lack, lack_from}

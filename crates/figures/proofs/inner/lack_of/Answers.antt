@@ -1,7 +1,6 @@
 -- `figures::inner::lack_of` meets its contract: the branch's test says whether the difference is negative.
 -- Assumes nothing.
 use native.Mathlib.Omega.{arith}
-use borrow.Author.Rules.{rules}
 use Rattle.figures.proofs.Laws.{product_small}
 use Rattle.figures.proofs.inner.lack_of.Goals as goal
 

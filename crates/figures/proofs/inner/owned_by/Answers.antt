@@ -2,7 +2,6 @@
 -- Assumes nothing.
 use mathlib.Core.Path.{sym}
 use native.Mathlib.Omega.{arith}
-use borrow.Author.Rules.{rules}
 use Rattle.plan.proofs.Laws.{client_is, client_not}
 use Rattle.figures.proofs.inner.owned_by.Goals as goal
 

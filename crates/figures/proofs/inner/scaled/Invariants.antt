@@ -1,14 +1,10 @@
 -- `figures::inner::scaled` meets its contract: the loop has the most that a stretch from one of the first s starts
 -- lacks, and starts and lengths below f suffice.
 -- Assumes nothing.
-use mathlib.Core.Path.{◌≡◌, refl}
+use mathlib.Core.Path.{◌≡◌}
 use Prim.Native.Nat.{◌-◌, ◌≤◌}
-use native.Mathlib.Omega.{arith}
-use borrow.Author.Rules.{rules}
 use Rattle.frame.specs.Largest.{largest, lack_from}
-use Rattle.frame.proofs.Scaled.{largest_on}
 use Rattle.plan.specs.Plan.{own_of}
-use Rattle.figures.proofs.Laws.{count_small, scaled_all}
 use Rattle.figures.proofs.inner.scaled.Given as goal
 
 abbrev pub invariant-loop-s : goal.invariant-loop-s

@@ -1,14 +1,9 @@
 -- `figures::inner::slots` meets its contract: the loop has counted the client's slots among the first `at`.
 -- Assumes nothing.
-use mathlib.Core.Path.{◌≡◌, refl}
+use mathlib.Core.Path.{◌≡◌}
 use Prim.Native.Nat.{◌-◌, ◌≤◌}
-use native.Mathlib.Omega.{arith}
-use borrow.Author.Rules.{rules}
-use lib.ListN.{get_or}
 use Rattle.frame.specs.Frame.{within}
 use Rattle.plan.specs.Plan.{own_in}
-use Rattle.plan.proofs.Laws.{client_most}
-use Rattle.figures.proofs.Laws.{count_small, place_first, count_on}
 use Rattle.figures.proofs.inner.slots.Given as goal
 
 abbrev pub invariant-loop-at : goal.invariant-loop-at

@@ -2,7 +2,6 @@
 -- decides, or the wait is that of the figure.
 -- Assumes nothing.
 use mathlib.Core.Path.{refl, sym, ◌∙◌}
-use borrow.Author.Rules.{rules}
 use Rattle.records.specs.Refusal as refusal
 use Rattle.records.proofs.Checks.{range_fine, refuses, passes}
 use Rattle.figures.specs.Check.{most_waiting, wait_check}

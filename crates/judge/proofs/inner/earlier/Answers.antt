@@ -1,6 +1,5 @@
 -- `judge::inner::earlier` meets its contract: where all of the first group are ok the second decides, else the first.
 -- Assumes nothing.
-use borrow.Author.Rules.{rules}
 use Rattle.judge.proofs.Laws.{first_stops, judged_on}
 use Rattle.judge.proofs.inner.earlier.Goals as goal
 

@@ -5,7 +5,6 @@ use Prim.Native.Nat.{ℕ, ◌*◌}
 use native.Mathlib.Nat.{mul_comm}
 use native.Mathlib.Omega.{arith}
 use lib.Dec.{leb}
-use borrow.Author.Rules.{rules}
 use Rattle.plan.specs.declared.Client.{Client}
 use Rattle.judge.specs.Rules.{enough}
 use Rattle.judge.proofs.inner.enough.Goals as goal

@@ -2,21 +2,16 @@
 -- before i are ok, the stretches of client i + 1 that start before s are in time, and of those from s the ones shorter
 -- than j; w counts the client's slots along, and `at` is the place where the stretch ends.
 -- Assumes nothing.
-use mathlib.Core.Path.{◌≡◌, refl, sym, ◌∙◌}
-use mathlib.Core.Bool.{true}
-use Prim.Native.Nat.{ℕ, ◌+◌, ◌-◌, ◌%◌, ◌≤◌, ◌<◌}
+use mathlib.Core.Path.{refl, sym, ◌∙◌}
+use Prim.Native.Nat.{◌+◌}
 use native.Mathlib.Omega.{arith}
 use borrow.Author.Count.{below_more}
-use borrow.Author.Rules.{rules}
-use borrow.Author.Tests.{not-true, not-false}
 use lib.ListN.{get_or}
-use Rattle.frame.specs.Frame.{within}
 use Rattle.frame.proofs.Within.{within_none}
 use Rattle.plan.specs.Plan.{client_of, own_of}
 use Rattle.plan.proofs.Laws.{client_most}
 use Rattle.figures.proofs.Laws.{frame_of, count_small, slots_small, count_on, place_zero, place_on, in_frame}
-use Rattle.judge.specs.Rules.{in_time, IsLate}
-use Rattle.judge.specs.Judge.{AllOk}
+use Rattle.judge.specs.Rules.{IsLate}
 use Rattle.judge.proofs.Laws.{lengths_suffice, starts_suffice, rate_tested, stretch_tested}
 use Rattle.judge.proofs.Laws.{all_more, first_at}
 use Rattle.judge.proofs.inner.first_failure.Goals as goal

@@ -1,7 +1,6 @@
 -- `judge::inner::verdict` meets its contract: it judges the one client.
 -- Assumes nothing.
 use native.Mathlib.Omega.{arith}
-use borrow.Author.Rules.{rules}
 use Rattle.judge.proofs.Laws.{verdict_by_lem}
 use Rattle.judge.proofs.inner.verdict.Goals as goal
 

@@ -1,11 +1,7 @@
 -- `listing::inner::put_closing` meets its contract: where judging stopped decides the last line.
 -- Assumes nothing.
-use mathlib.Core.Path.{◌≡◌}
-use mathlib.Core.Logic.{⊎_elim}
-use native.Mathlib.Omega.{arith}
 use borrow.Author.Rules.{rules}
 use Rattle.text.proofs.Laws.{lendable}
-use Rattle.judge.specs.declared.Verdict.TheVariants.{Ok}
 use Rattle.listing.proofs.Laws.{closes_ok, closes_refused}
 use Rattle.listing.proofs.inner.put_closing.Goals as goal
 

@@ -2,11 +2,8 @@
 -- end within the page each line tells of itself, so it is known once there is one.
 -- Assumes nothing.
 use mathlib.Core.Path.{◌≡◌}
-use Prim.Native.Nat.{◌-◌, ◌*◌, ◌≤◌}
 use native.Mathlib.Omega.{arith}
-use borrow.Author.Rules.{rules}
 use Rattle.plan.proofs.Laws.{plan_fine}
-use Rattle.text.specs.Text.{Lines, Puts, Lendable}
 use Rattle.text.proofs.Laws.{puts_none, then_line}
 use Rattle.listing.specs.Listing.{IsHomingLine}
 use Rattle.listing.proofs.Laws.{client_asked, homing_line_put}

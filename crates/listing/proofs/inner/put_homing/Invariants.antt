@@ -1,15 +1,9 @@
 -- `listing::inner::put_homing` meets its contract: the loop's invariant is that the first i lines are put. That they
 -- end within the page each line tells of itself, so it is known once there is one.
 -- Assumes nothing.
-use mathlib.Core.Path.{◌≡◌}
 use Prim.Native.Nat.{◌-◌, ◌*◌, ◌≤◌}
-use native.Mathlib.Omega.{arith}
-use borrow.Author.Rules.{rules}
-use Rattle.plan.proofs.Laws.{plan_fine}
 use Rattle.text.specs.Text.{Lines, Puts, Lendable}
-use Rattle.text.proofs.Laws.{puts_none, then_line}
 use Rattle.listing.specs.Listing.{IsHomingLine}
-use Rattle.listing.proofs.Laws.{client_asked, homing_line_put}
 use Rattle.listing.proofs.inner.put_homing.Given as goal
 
 abbrev pub invariant-loop-i : goal.invariant-loop-i

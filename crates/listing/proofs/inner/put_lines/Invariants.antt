@@ -1,17 +1,10 @@
 -- `listing::inner::put_lines` meets its contract: the loop's invariant is that the first i lines are put, and that
 -- judging the first i clients stops where it was found to.
 -- Assumes nothing.
-use mathlib.Core.Path.{◌≡◌}
 use Prim.Native.Nat.{◌+◌, ◌-◌, ◌*◌, ◌≤◌}
-use native.Mathlib.Omega.{arith}
-use borrow.Author.Rules.{rules}
-use Rattle.plan.proofs.Laws.{plan_fine}
 use Rattle.text.specs.Text.{Lines, Puts}
-use Rattle.text.proofs.Laws.{puts_none, then_line}
 use Rattle.judge.specs.Judge.{IsJudgement}
-use Rattle.judge.proofs.Laws.{judged_none}
 use Rattle.listing.specs.Listing.{IsReportLine}
-use Rattle.listing.proofs.Laws.{judged_verdict, line_put}
 use Rattle.listing.proofs.inner.put_lines.Given as goal
 
 abbrev pub invariant-loop-i : goal.invariant-loop-i

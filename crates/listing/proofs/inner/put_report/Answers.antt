@@ -1,6 +1,5 @@
 -- `listing::inner::put_report` meets its contract: the header, the lines and the last line are put, with room for each.
 -- Assumes nothing.
-use borrow.Author.Rules.{rules}
 use Rattle.listing.proofs.Laws.{closing_put, report_put}
 use Rattle.listing.proofs.inner.put_report.Goals as goal
 

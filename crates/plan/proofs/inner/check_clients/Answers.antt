@@ -1,15 +1,11 @@
 -- `plan::inner::check_clients` meets its contract: the loop's invariant is that the clients before i pass.
 -- Assumes nothing.
 use mathlib.Core.Path.{◌≡◌, sym}
-use Prim.Native.Nat.{◌-◌, ◌≤◌}
 use native.Mathlib.Omega.{arith}
 use borrow.Author.Rules.{rules}
-use lib.ListN.{get_or}
 use Rattle.records.specs.First.{first_of}
-use Rattle.records.specs.declared.Outcome.TheVariants.{Fine}
 use Rattle.records.proofs.Checks.{first_more, first_stop}
-use Rattle.plan.specs.Plan.{no_client}
-use Rattle.plan.specs.Check.{client_check, client_check_of}
+use Rattle.plan.specs.Check.{client_check_of}
 use Rattle.plan.proofs.inner.check_clients.Goals as goal
 
 pub loop-i-init : goal.loop-i-init

@@ -1,7 +1,6 @@
 -- `plan::inner::check_owner` meets its contract: each answer is the check's case that the branch's test chooses.
 -- Assumes nothing.
 use native.Mathlib.Omega.{arith}
-use borrow.Author.Rules.{rules}
 use borrow.Author.Tests.{le-leb, lt-leb}
 use Rattle.plan.specs.Check.{owner_check}
 use Rattle.plan.proofs.inner.check_owner.Goals as goal

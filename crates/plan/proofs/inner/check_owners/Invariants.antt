@@ -1,14 +1,11 @@
 -- `plan::inner::check_owners` meets its contract: the loop's invariant is that the owners before x pass.
 -- Assumes nothing.
-use mathlib.Core.Path.{◌≡◌, sym}
+use mathlib.Core.Path.{◌≡◌}
 use Prim.Native.Nat.{◌-◌, ◌≤◌}
-use native.Mathlib.Omega.{arith}
-use borrow.Author.Rules.{rules}
 use lib.ListN.{get_or}
 use Rattle.records.specs.First.{first_of}
 use Rattle.records.specs.declared.Outcome.TheVariants.{Fine}
-use Rattle.records.proofs.Checks.{first_more, first_stop}
-use Rattle.plan.specs.Check.{owner_check, owner_check_of, owners_check}
+use Rattle.plan.specs.Check.{owner_check}
 use Rattle.plan.proofs.inner.check_owners.Given as goal
 
 abbrev pub invariant-loop-x : goal.invariant-loop-x

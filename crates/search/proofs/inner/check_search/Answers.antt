@@ -2,7 +2,6 @@
 -- Assumes nothing.
 use mathlib.Core.Path.{sym}
 use native.Mathlib.Omega.{arith}
-use borrow.Author.Rules.{rules}
 use Rattle.records.proofs.Checks.{stops, passes}
 use Rattle.search.specs.Search.{search_check}
 use Rattle.search.proofs.Questions.{too_long, too_many, size_pass}

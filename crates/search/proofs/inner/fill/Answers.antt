@@ -2,15 +2,10 @@
 -- them.
 -- Assumes nothing.
 use mathlib.Core.Path.{◌≡◌, sym}
-use Prim.Native.Nat.{◌-◌, ◌≤◌}
 use native.Mathlib.Omega.{arith}
-use borrow.Author.Rules.{rules}
 use lib.ListN.{get_or}
-use Rattle.frame.specs.Frame.{within}
 use Rattle.frame.proofs.Within.{within_none}
-use Rattle.records.specs.Pieces.{padded}
 use Rattle.records.proofs.Lists.{padded_none, padded_more}
-use Rattle.plan.specs.Plan.{own_in}
 use Rattle.plan.proofs.Laws.{client_most}
 use Rattle.figures.proofs.Laws.{count_small, count_on, place_first}
 use Rattle.search.specs.Trees.{filled_in}

@@ -1,7 +1,6 @@
 -- `search::inner::leaf` meets its contract: the verdict on one filling that leads to the node holds of every one.
 -- Assumes nothing.
 use native.Mathlib.Omega.{arith}
-use borrow.Author.Rules.{rules}
 use Rattle.search.proofs.Sets.{leaf_judged, suits_by}
 use Rattle.search.proofs.inner.leaf.Goals as goal
 

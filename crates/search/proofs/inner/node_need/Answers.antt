@@ -4,7 +4,6 @@
 use mathlib.Core.Path.{◌≡◌, ap, ◌∙◌}
 use Prim.Native.Nat.{ℕ, ◌+◌, ◌*◌, min}
 use native.Mathlib.Omega.{arith}
-use borrow.Author.Rules.{rules}
 use lib.ListN.{get_or}
 use Rattle.explore.proofs.Needs.{node_below}
 use Rattle.search.proofs.Planting.{leaves_small, leaves_shifted, leaves_doubled}

@@ -1,11 +1,10 @@
 -- `search::inner::plant` meets its contract: the numbers from z on are right.
 -- Assumes nothing.
 use mathlib.Core.Path.{◌≡◌, ◌∙◌}
-use Prim.Native.Nat.{ℕ, ◌+◌, ◌-◌, ◌*◌, ◌≤◌}
+use Prim.Native.Nat.{ℕ, ◌+◌, ◌-◌}
 use native.Mathlib.Omega.{arith}
-use borrow.Author.Rules.{rules}
-use lib.ListN.{length, length-replicate, length-set}
-use Rattle.search.proofs.Planting.{RightFrom, right_more}
+use lib.ListN.{length-replicate, length-set}
+use Rattle.search.proofs.Planting.{right_more}
 use Rattle.search.proofs.inner.plant.Goals as goal
 
 pub loop-z-init : goal.loop-z-init

@@ -1,11 +1,9 @@
 -- `search::inner::plant` meets its contract: the numbers from z on are right.
 -- Assumes nothing.
-use mathlib.Core.Path.{◌≡◌, ◌∙◌}
-use Prim.Native.Nat.{ℕ, ◌+◌, ◌-◌, ◌*◌, ◌≤◌}
-use native.Mathlib.Omega.{arith}
-use borrow.Author.Rules.{rules}
-use lib.ListN.{length, length-replicate, length-set}
-use Rattle.search.proofs.Planting.{RightFrom, right_more}
+use mathlib.Core.Path.{◌≡◌}
+use Prim.Native.Nat.{◌*◌, ◌≤◌}
+use lib.ListN.{length}
+use Rattle.search.proofs.Planting.{RightFrom}
 use Rattle.search.proofs.inner.plant.Given as goal
 
 abbrev pub invariant-loop-z : goal.invariant-loop-z

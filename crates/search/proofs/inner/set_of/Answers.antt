@@ -2,12 +2,10 @@
 -- root, to the node.
 -- Assumes nothing.
 use mathlib.Core.Path.{◌≡◌, ◌∙◌}
-use Prim.Native.Nat.{ℕ, ◌+◌, ◌-◌, ◌^◌, ◌≤◌, ◌<◌}
+use Prim.Native.Nat.{ℕ, ◌+◌, ◌-◌, ◌≤◌}
 use native.Mathlib.Numerals.{add-one}
 use native.Mathlib.Omega.{arith}
-use borrow.Author.Rules.{rules}
-use lib.ListN.{length, take, drop, length-replicate, length-set}
-use Rattle.explore.specs.Needs.{node_from}
+use lib.ListN.{length, length-replicate, length-set}
 use Rattle.search.proofs.Sets.{leads_none, leads_more, leads_all, half}
 use Rattle.search.proofs.inner.set_of.Goals as goal
 

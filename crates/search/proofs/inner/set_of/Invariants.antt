@@ -1,14 +1,10 @@
 -- `search::inner::set_of` meets its contract: the places from j on lead from `above`, which stands j places below the
 -- root, to the node.
 -- Assumes nothing.
-use mathlib.Core.Path.{◌≡◌, ◌∙◌}
-use Prim.Native.Nat.{ℕ, ◌+◌, ◌-◌, ◌^◌, ◌≤◌, ◌<◌}
-use native.Mathlib.Numerals.{add-one}
-use native.Mathlib.Omega.{arith}
-use borrow.Author.Rules.{rules}
-use lib.ListN.{length, take, drop, length-replicate, length-set}
+use mathlib.Core.Path.{◌≡◌}
+use Prim.Native.Nat.{◌+◌, ◌^◌, ◌≤◌, ◌<◌}
+use lib.ListN.{length, take, drop}
 use Rattle.explore.specs.Needs.{node_from}
-use Rattle.search.proofs.Sets.{leads_none, leads_more, leads_all, half}
 use Rattle.search.proofs.inner.set_of.Given as goal
 
 abbrev pub invariant-loop-j : goal.invariant-loop-j

@@ -1,11 +1,5 @@
 -- Each step passes as the one before it did (`next_passes`).
 -- Assumes nothing.
-use mathlib.Core.Path.{◌≡◌}
-use Prim.Native.Nat.{◌-◌}
-use lib.ListN.{length}
-use borrow.Author.Rules.{rules}
-use Rattle.records.specs.declared.Outcome.TheVariants.{Fine}
-use Rattle.arbiter.specs.Step.{step_check}
 use Rattle.arbiter.proofs.Questions.{step_fine, next_passes}
 use Rattle.speed.proofs.inner.steps.Goals as goal
 

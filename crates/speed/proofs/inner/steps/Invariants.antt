@@ -3,10 +3,8 @@
 use mathlib.Core.Path.{◌≡◌}
 use Prim.Native.Nat.{◌-◌}
 use lib.ListN.{length}
-use borrow.Author.Rules.{rules}
 use Rattle.records.specs.declared.Outcome.TheVariants.{Fine}
 use Rattle.arbiter.specs.Step.{step_check}
-use Rattle.arbiter.proofs.Questions.{step_fine, next_passes}
 use Rattle.speed.proofs.inner.steps.Given as goal
 
 abbrev pub invariant-loop-i : goal.invariant-loop-i

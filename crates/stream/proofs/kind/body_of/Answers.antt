@@ -3,7 +3,6 @@
 use mathlib.Core.Path.{ap, sym, ◌∙◌}
 use native.Mathlib.Omega.{arith}
 use lib.ListN.{get_or-eq_default}
-use borrow.Author.Rules.{rules}
 use Rattle.stream.specs.Kind.{bodies, body_of}
 use Rattle.stream.proofs.kind.body_of.Goals as goal
 

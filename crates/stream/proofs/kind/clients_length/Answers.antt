@@ -3,7 +3,6 @@
 use mathlib.Core.Path.{◌≡◌, ap}
 use Prim.Native.Nat.{ℕ, ◌*◌}
 use native.Mathlib.Omega.{arith}
-use borrow.Author.Rules.{rules}
 use Rattle.stream.proofs.kind.clients_length.Goals as goal
 
 pub overflow_mul-result : goal.overflow_mul-result

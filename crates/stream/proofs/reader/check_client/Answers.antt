@@ -2,7 +2,6 @@
 -- checked in this order.
 -- Assumes nothing.
 use native.Mathlib.Omega.{arith}
-use borrow.Author.Rules.{rules}
 use Rattle.records.proofs.Checks.{stops, passes}
 use Rattle.stream.specs.Kind.{client_kind}
 use Rattle.stream.specs.Read.{client_record_check}

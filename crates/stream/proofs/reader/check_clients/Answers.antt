@@ -2,13 +2,10 @@
 -- and where the next one stands.
 -- Assumes nothing.
 use mathlib.Core.Path.{◌≡◌, sym}
-use Prim.Native.Nat.{◌+◌, ◌-◌, ◌*◌, ◌≤◌}
 use native.Mathlib.Omega.{arith}
 use borrow.Author.Rules.{rules}
 use Rattle.records.specs.First.{first_of}
-use Rattle.records.specs.declared.Outcome.TheVariants.{Fine}
 use Rattle.records.proofs.Checks.{first_more, first_stop}
-use Rattle.stream.specs.Kind.{client_kind, whole_of}
 use Rattle.stream.specs.Read.{client_due_check}
 use Rattle.stream.proofs.Records.{place_clients}
 use Rattle.stream.proofs.reader.check_clients.Goals as goal

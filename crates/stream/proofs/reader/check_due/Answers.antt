@@ -2,7 +2,6 @@
 -- matters (`due_body`).
 -- Assumes nothing.
 use mathlib.Core.Path.{◌∙◌}
-use borrow.Author.Rules.{rules}
 use Rattle.stream.proofs.Records.{due_body}
 use Rattle.stream.proofs.reader.check_due.Goals as goal
 

@@ -1,6 +1,5 @@
 -- `stream::reader::check_end` meets its contract: the end record decides where it is refused, else what follows it.
 -- Assumes nothing.
-use borrow.Author.Rules.{rules}
 use Rattle.records.proofs.Checks.{stops, passes}
 use Rattle.stream.specs.Kind.{end_kind}
 use Rattle.stream.specs.Read.{end_record_check}

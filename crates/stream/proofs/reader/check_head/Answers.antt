@@ -1,7 +1,6 @@
 -- `stream::reader::check_head` meets its contract: the head's record, f and n are checked in this order.
 -- Assumes nothing.
 use native.Mathlib.Omega.{arith}
-use borrow.Author.Rules.{rules}
 use Rattle.records.proofs.Checks.{stops, passes}
 use Rattle.stream.specs.Kind.{head_kind}
 use Rattle.stream.specs.Read.{head_record_check}

@@ -1,7 +1,6 @@
 -- `stream::reader::check_number` meets its contract: each answer is the check's case that the branch's test chooses.
 -- Assumes nothing.
 use mathlib.Core.Path.{sym, ◌∙◌}
-use borrow.Author.Rules.{rules}
 use borrow.Author.Tests.{eq-eqb, ne_eqb}
 use Rattle.stream.specs.Read.{number_check}
 use Rattle.stream.proofs.reader.check_number.Goals as goal

@@ -2,12 +2,10 @@
 -- decides for all of them.
 -- Assumes nothing.
 use mathlib.Core.Path.{◌≡◌, sym, ◌∙◌}
-use Prim.Native.Nat.{ℕ, ◌+◌, ◌-◌, ◌≤◌}
+use Prim.Native.Nat.{ℕ, ◌+◌}
 use native.Mathlib.Omega.{arith}
 use lib.ListN.{get_or}
-use borrow.Author.Rules.{rules}
 use Rattle.records.specs.First.{first_of}
-use Rattle.plan.specs.Check.{owner_check}
 use Rattle.plan.proofs.Laws.{owner_pass}
 use Rattle.stream.proofs.Records.{owners_more}
 use Rattle.stream.proofs.reader.check_owners.Goals as goal

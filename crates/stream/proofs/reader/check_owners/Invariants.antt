@@ -1,15 +1,11 @@
 -- `stream::reader::check_owners` meets its contract: the loop's invariant is that the highest of the bytes before t
 -- decides for all of them.
 -- Assumes nothing.
-use mathlib.Core.Path.{◌≡◌, sym, ◌∙◌}
-use Prim.Native.Nat.{ℕ, ◌+◌, ◌-◌, ◌≤◌}
-use native.Mathlib.Omega.{arith}
+use mathlib.Core.Path.{◌≡◌}
+use Prim.Native.Nat.{◌+◌, ◌-◌, ◌≤◌}
 use lib.ListN.{get_or}
-use borrow.Author.Rules.{rules}
 use Rattle.records.specs.First.{first_of}
 use Rattle.plan.specs.Check.{owner_check}
-use Rattle.plan.proofs.Laws.{owner_pass}
-use Rattle.stream.proofs.Records.{owners_more}
 use Rattle.stream.proofs.reader.check_owners.Given as goal
 
 abbrev pub invariant-loop-t : goal.invariant-loop-t

@@ -3,7 +3,6 @@
 -- Assumes nothing.
 use mathlib.Core.Path.{◌≡◌, sym, ◌∙◌}
 use native.Mathlib.Omega.{arith}
-use borrow.Author.Rules.{rules}
 use Rattle.records.specs.First.{first_of}
 use Rattle.records.specs.declared.Outcome.TheVariants.{Fine}
 use Rattle.records.proofs.Checks.{stops, passes}

@@ -2,13 +2,11 @@
 -- and where the next one stands.
 -- Assumes nothing.
 use mathlib.Core.Path.{◌≡◌, sym}
-use Prim.Native.Nat.{◌+◌, ◌-◌, ◌*◌, ◌≤◌}
 use native.Mathlib.Omega.{arith}
 use borrow.Author.Rules.{rules}
 use Rattle.records.specs.First.{first_of}
-use Rattle.records.specs.declared.Outcome.TheVariants.{Fine}
 use Rattle.records.proofs.Checks.{first_more, first_stop}
-use Rattle.stream.specs.Kind.{row_kind, whole_of, rows_of}
+use Rattle.stream.specs.Kind.{rows_of}
 use Rattle.stream.specs.Read.{row_due_check}
 use Rattle.stream.proofs.Records.{place_rows}
 use Rattle.stream.proofs.reader.check_rows.Goals as goal

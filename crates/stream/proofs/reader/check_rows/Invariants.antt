@@ -1,16 +1,12 @@
 -- `stream::reader::check_rows` meets its contract: the loop's invariant is that the rows before j pass,
 -- and where the next one stands.
 -- Assumes nothing.
-use mathlib.Core.Path.{◌≡◌, sym}
+use mathlib.Core.Path.{◌≡◌}
 use Prim.Native.Nat.{◌+◌, ◌-◌, ◌*◌, ◌≤◌}
-use native.Mathlib.Omega.{arith}
-use borrow.Author.Rules.{rules}
 use Rattle.records.specs.First.{first_of}
 use Rattle.records.specs.declared.Outcome.TheVariants.{Fine}
-use Rattle.records.proofs.Checks.{first_more, first_stop}
-use Rattle.stream.specs.Kind.{row_kind, whole_of, rows_of}
+use Rattle.stream.specs.Kind.{row_kind, whole_of}
 use Rattle.stream.specs.Read.{row_due_check}
-use Rattle.stream.proofs.Records.{place_rows}
 use Rattle.stream.proofs.reader.check_rows.Given as goal
 
 abbrev pub invariant-loop-j : goal.invariant-loop-j

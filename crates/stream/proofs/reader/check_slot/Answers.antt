@@ -1,6 +1,5 @@
 -- `stream::reader::check_slot` meets its contract: each answer is the check's case that the branches' tests choose.
 -- Assumes nothing.
-use borrow.Author.Rules.{rules}
 use borrow.Author.Tests.{lt-ltb}
 use Rattle.records.proofs.Checks.{tests}
 use Rattle.stream.specs.Read.{slot_check}

@@ -1,11 +1,9 @@
 -- `stream::reader::check_slots` meets its contract: the loop's invariant is that the bytes before t pass.
 -- Assumes nothing.
 use mathlib.Core.Path.{◌≡◌, sym}
-use Prim.Native.Nat.{◌-◌, ◌≤◌}
 use native.Mathlib.Omega.{arith}
 use borrow.Author.Rules.{rules}
 use Rattle.records.specs.First.{first_of}
-use Rattle.records.specs.declared.Outcome.TheVariants.{Fine}
 use Rattle.records.proofs.Checks.{first_more, first_stop}
 use Rattle.stream.specs.Read.{slot_due_check}
 use Rattle.stream.proofs.reader.check_slots.Goals as goal

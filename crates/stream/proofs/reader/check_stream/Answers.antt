@@ -1,7 +1,6 @@
 -- `stream::reader::check_stream` meets its contract: the head decides where it is refused, else what follows it.
 -- Assumes nothing.
 use native.Mathlib.Omega.{arith}
-use borrow.Author.Rules.{rules}
 use Rattle.records.proofs.Checks.{stops, passes}
 use Rattle.stream.specs.Read.{read_check}
 use Rattle.stream.proofs.Records.{head_found, to_clients_lem}

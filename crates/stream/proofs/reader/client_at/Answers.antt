@@ -1,6 +1,5 @@
 -- `stream::reader::client_at` meets its contract: four words, each from its place.
 -- Assumes nothing.
-use borrow.Author.Rules.{rules}
 use Rattle.stream.specs.Read.{client_at}
 use Rattle.stream.proofs.reader.client_at.Goals as goal
 

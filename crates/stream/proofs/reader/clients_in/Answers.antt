@@ -2,13 +2,9 @@
 -- are filled in.
 -- Assumes nothing.
 use mathlib.Core.Path.{◌≡◌}
-use Prim.Native.Nat.{◌+◌, ◌-◌, ◌*◌, ◌≤◌}
 use native.Mathlib.Omega.{arith}
-use borrow.Author.Rules.{rules}
-use Rattle.records.specs.Pieces.{padded}
 use Rattle.records.proofs.Lists.{padded_none, padded_more}
 use Rattle.plan.specs.Plan.{no_client}
-use Rattle.stream.specs.Kind.{client_kind, whole_of}
 use Rattle.stream.specs.Read.{client_in}
 use Rattle.stream.proofs.Records.{clients_fine, place_clients}
 use Rattle.stream.proofs.reader.clients_in.Goals as goal

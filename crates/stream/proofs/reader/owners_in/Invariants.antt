@@ -2,18 +2,9 @@
 -- A slot below f stands in a row that passed, so its byte lies in the stream.
 -- Assumes nothing.
 use mathlib.Core.Path.{◌≡◌}
-use mathlib.Core.List.{List}
-use Prim.Native.Nat.{ℕ, ◌+◌, ◌-◌, ◌*◌, ◌/◌, ◌%◌, ◌≤◌, ◌<◌}
-use native.Mathlib.Omega.{arith}
-use lib.ListN.{length}
-use borrow.Author.Rules.{rules}
-use Rattle.records.specs.First.{first_of}
+use Prim.Native.Nat.{◌-◌, ◌*◌, ◌≤◌}
 use Rattle.records.specs.Pieces.{padded}
-use Rattle.records.specs.declared.Outcome.TheVariants.{Fine}
-use Rattle.records.proofs.Lists.{padded_none}
-use Rattle.stream.specs.Kind.{rows_of}
-use Rattle.stream.specs.Read.{place, row_due_check, owner_in}
-use Rattle.stream.proofs.Records.{rows_fine, place_rows}
+use Rattle.stream.specs.Read.{owner_in}
 use Rattle.stream.proofs.reader.owners_in.Given as goal
 
 abbrev pub invariant-loop-j : goal.invariant-loop-j

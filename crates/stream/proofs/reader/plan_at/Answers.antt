@@ -3,7 +3,6 @@
 -- Assumes nothing.
 use mathlib.Core.Path.{sym, ◌∙◌}
 use native.Mathlib.Omega.{arith}
-use borrow.Author.Rules.{rules}
 use Rattle.stream.specs.Read.{plan_of}
 use Rattle.stream.proofs.Records.{read_fine, to_clients_lem, to_rows_lem}
 use Rattle.stream.proofs.reader.plan_at.Goals as goal

@@ -2,10 +2,8 @@
 -- first t of row j are filled in.
 -- Assumes nothing.
 use mathlib.Core.Path.{◌≡◌}
-use Prim.Native.Nat.{◌+◌, ◌-◌, ◌*◌, ◌/◌, ◌%◌, ◌≤◌}
+use Prim.Native.Nat.{◌+◌, ◌*◌, ◌/◌, ◌%◌}
 use native.Mathlib.Omega.{arith}
-use borrow.Author.Rules.{rules}
-use Rattle.records.specs.Pieces.{padded}
 use Rattle.records.proofs.Lists.{padded_more}
 use Rattle.stream.specs.Read.{owner_in}
 use Rattle.stream.proofs.reader.put_owners.Goals as goal

@@ -3,7 +3,6 @@
 use borrow.Author.Rules.{rules}
 use Rattle.records.proofs.Puts.{then}
 use Rattle.stream.specs.Write.{client_bytes}
-use Rattle.stream.specs.Trip.{Words}
 use Rattle.stream.proofs.writer.put_client.Goals as goal
 
 -- the type of a client's numbers

@@ -1,12 +1,10 @@
 -- `stream::writer::put_clients` meets its contract: the loop's invariant is that the first i records are put.
 -- Assumes nothing.
 use mathlib.Core.Path.{◌≡◌}
-use Prim.Native.Nat.{ℕ, ◌+◌, ◌-◌, ◌≤◌, ◌<◌}
+use Prim.Native.Nat.{ℕ, ◌+◌}
 use native.Mathlib.Omega.{arith}
-use borrow.Author.Rules.{rules}
 use borrow.Author.Count.{below_more}
 use Rattle.records.specs.Pieces.{many}
-use Rattle.records.specs.Put.{Put}
 use Rattle.records.proofs.Lists.{within_many}
 use Rattle.records.proofs.Puts.{none, then_piece, put_length}
 use Rattle.plan.specs.Plan.{client_of}

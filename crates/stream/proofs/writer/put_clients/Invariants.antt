@@ -1,18 +1,11 @@
 -- `stream::writer::put_clients` meets its contract: the loop's invariant is that the first i records are put.
 -- Assumes nothing.
-use mathlib.Core.Path.{◌≡◌}
-use Prim.Native.Nat.{ℕ, ◌+◌, ◌-◌, ◌≤◌, ◌<◌}
-use native.Mathlib.Omega.{arith}
-use borrow.Author.Rules.{rules}
-use borrow.Author.Count.{below_more}
+use Prim.Native.Nat.{ℕ, ◌-◌, ◌≤◌, ◌<◌}
 use Rattle.records.specs.Pieces.{many}
 use Rattle.records.specs.Put.{Put}
-use Rattle.records.proofs.Lists.{within_many}
-use Rattle.records.proofs.Puts.{none, then_piece, put_length}
 use Rattle.plan.specs.Plan.{client_of}
 use Rattle.stream.specs.Write.{client_record}
 use Rattle.stream.specs.Trip.{Words}
-use Rattle.stream.proofs.Lengths.{length_client}
 use Rattle.stream.proofs.writer.put_clients.Given as goal
 
 abbrev pub invariant-loop-i : goal.invariant-loop-i

@@ -1,6 +1,5 @@
 -- `stream::writer::put_head` meets its contract: three bytes put, one after the other.
 -- Assumes nothing.
-use borrow.Author.Rules.{rules}
 use Rattle.records.proofs.Puts.{then}
 use Rattle.stream.proofs.writer.put_head.Goals as goal
 

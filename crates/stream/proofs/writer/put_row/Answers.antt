@@ -1,6 +1,5 @@
 -- `stream::writer::put_row` meets its contract: the kind and then the eight bytes.
 -- Assumes nothing.
-use borrow.Author.Rules.{rules}
 use Rattle.records.proofs.Puts.{then}
 use Rattle.stream.specs.Write.{row_record}
 use Rattle.stream.proofs.writer.put_row.Goals as goal

@@ -1,11 +1,9 @@
 -- `stream::writer::put_rows` meets its contract: the loop's invariant is that the first j records are put.
 -- Assumes nothing.
 use mathlib.Core.Path.{◌≡◌}
-use Prim.Native.Nat.{◌-◌, ◌≤◌}
 use native.Mathlib.Omega.{arith}
 use borrow.Author.Rules.{rules}
 use Rattle.records.specs.Pieces.{many}
-use Rattle.records.specs.Put.{Put}
 use Rattle.records.proofs.Lists.{within_many}
 use Rattle.records.proofs.Puts.{none, then_piece, put_length}
 use Rattle.stream.specs.Kind.{rows_of}

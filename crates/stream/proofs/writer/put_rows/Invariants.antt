@@ -1,16 +1,9 @@
 -- `stream::writer::put_rows` meets its contract: the loop's invariant is that the first j records are put.
 -- Assumes nothing.
-use mathlib.Core.Path.{◌≡◌}
 use Prim.Native.Nat.{◌-◌, ◌≤◌}
-use native.Mathlib.Omega.{arith}
-use borrow.Author.Rules.{rules}
 use Rattle.records.specs.Pieces.{many}
 use Rattle.records.specs.Put.{Put}
-use Rattle.records.proofs.Lists.{within_many}
-use Rattle.records.proofs.Puts.{none, then_piece, put_length}
-use Rattle.stream.specs.Kind.{rows_of}
 use Rattle.stream.specs.Write.{row_record}
-use Rattle.stream.proofs.Lengths.{length_row}
 use Rattle.stream.proofs.writer.put_rows.Given as goal
 
 abbrev pub invariant-loop-j : goal.invariant-loop-j

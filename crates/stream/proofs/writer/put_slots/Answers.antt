@@ -1,15 +1,8 @@
 -- `stream::writer::put_slots` meets its contract: the loop's invariant is that the first t bytes are put.
 -- Assumes nothing.
 use mathlib.Core.Path.{◌≡◌}
-use mathlib.Core.List.{List}
-use Prim.Native.Nat.{ℕ, ◌+◌, ◌-◌, ◌*◌, ◌≤◌}
 use native.Mathlib.Omega.{arith}
-use lib.Dec.{ltb}
-use lib.ListN.{get_or}
-use borrow.Author.Rules.{rules}
-use Rattle.records.specs.First.{pick}
 use Rattle.records.specs.Pieces.{firsts}
-use Rattle.records.specs.Put.{Put}
 use Rattle.records.proofs.Lists.{length_firsts}
 use Rattle.records.proofs.Puts.{none, then_one, put_length}
 use Rattle.stream.specs.Write.{slot_byte, row_byte}

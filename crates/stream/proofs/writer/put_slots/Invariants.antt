@@ -1,23 +1,16 @@
 -- `stream::writer::put_slots` meets its contract: the loop's invariant is that the first t bytes are put.
 -- Assumes nothing.
-use mathlib.Core.Path.{◌≡◌}
 use mathlib.Core.List.{List}
 use Prim.Native.Nat.{ℕ, ◌+◌, ◌-◌, ◌*◌, ◌≤◌}
-use native.Mathlib.Omega.{arith}
 use lib.Dec.{ltb}
 use lib.ListN.{get_or}
-use borrow.Author.Rules.{rules}
 use Rattle.records.specs.First.{pick}
 use Rattle.records.specs.Pieces.{firsts}
 use Rattle.records.specs.Put.{Put}
-use Rattle.records.proofs.Lists.{length_firsts}
-use Rattle.records.proofs.Puts.{none, then_one, put_length}
-use Rattle.stream.specs.Write.{slot_byte, row_byte}
 use Rattle.stream.proofs.writer.put_slots.Given as goal
 
 abbrev pub byte : ℕ → List ℕ → ℕ → ℕ → ℕ
 byte f owners j t = pick (ltb (8 * j + t) f) (get_or owners (8 * j + t) 0) 255
-
 
 abbrev pub invariant-loop-t : goal.invariant-loop-t
 invariant-loop-t l = (l.t ≤ 8) × Put l.initial.out l.at (firsts (byte l.f l.owners l.j) l.t) l.out l.to

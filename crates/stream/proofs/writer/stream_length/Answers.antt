@@ -1,7 +1,6 @@
 -- `stream::writer::stream_length` meets its contract: it is the sum of its parts' lengths.
 -- Assumes nothing.
 use native.Mathlib.Omega.{arith}
-use borrow.Author.Rules.{rules}
 use Rattle.stream.specs.Kind.{rows_of}
 use Rattle.stream.proofs.Lengths.{length_clients, length_rows, length_parts}
 use Rattle.stream.proofs.writer.stream_length.Goals as goal

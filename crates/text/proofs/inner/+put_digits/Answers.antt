@@ -1,10 +1,8 @@
 -- `text::inner::put_digits` meets its contract: the digits of the tenth are put by the call of itself, and then the
 -- last. The measure is the number.
 -- Assumes nothing.
-use Prim.Native.Nat.{ℕ, ◌<◌}
 use native.Mathlib.Nat.{div-lt_self}
 use native.Mathlib.Omega.{arith}
-use borrow.Author.Rules.{rules}
 use Rattle.records.proofs.Puts.{then, put_length}
 use Rattle.text.proofs.Laws.{one_digit, last_digit, one_length, more_length}
 use Rattle.text.proofs.inner.+put_digits.Goals as goal

@@ -1,12 +1,7 @@
 -- `text::inner::put` meets its contract: the loop's invariant is that the first i bytes are put.
 -- Assumes nothing.
-use mathlib.Core.Path.{◌≡◌}
-use Prim.Native.Nat.{◌+◌, ◌-◌, ◌≤◌}
 use native.Mathlib.Omega.{arith}
-use borrow.Author.Rules.{rules}
-use lib.ListN.{length, take}
 use lib.Seq.{take_all}
-use Rattle.records.specs.Put.{Put}
 use Rattle.records.proofs.Puts.{none, put_length}
 use Rattle.text.proofs.Laws.{then_byte}
 use Rattle.text.proofs.inner.put.Goals as goal

@@ -1,7 +1,6 @@
 -- `text::inner::put_decimal` meets its contract: a number has at most twenty digits.
 -- Assumes nothing.
 use native.Mathlib.Omega.{arith}
-use borrow.Author.Rules.{rules}
 use Rattle.text.proofs.Laws.{twenty_most}
 use Rattle.text.proofs.inner.put_decimal.Goals as goal
 
