@@ -19,7 +19,8 @@ use Rattle.plan.specs.declared.Plan.{Plan}
 use Rattle.plan.specs.Plan.{owner_of, is_client, own_in, own_of}
 use Rattle.plan.proofs.Laws.{plan_fine}
 use Rattle.arbiter.specs.declared.Arbiter.{Arbiter}
-use Rattle.arbiter.specs.Step.{rule_of, count_of, arrived_of, queue_at, turned_at, joined, served_now, advanced, step_of}
+use Rattle.arbiter.specs.Step.{rule_of, count_of, arrived_of, queue_at, turned_at, joined, served_now, advanced}
+use Rattle.arbiter.specs.Step.{step_of}
 use Rattle.arbiter.specs.Step.{client_served, step_check}
 use Rattle.arbiter.specs.Run.{record_after, total_of, Runs, served_of, turned_of, taken_of, pending_of}
 use Rattle.arbiter.specs.Run.{served_in_of}

@@ -76,7 +76,8 @@ unfolding less_one
 less_none zero counts l = refl
 less_none (suc i) counts l = absurd (omega arith)
 
-less_at : (served i : ℕ) (counts : List ℕ) → served ≡ suc i → less_one served counts ≡ set counts i (get_or counts i 0 - 1)
+less_at : (served i : ℕ) (counts : List ℕ) → served ≡ suc i
+    → less_one served counts ≡ set counts i (get_or counts i 0 - 1)
 unfolding less_one
 less_at served i counts e = rw e
 
@@ -105,7 +106,8 @@ serves_is owner i counts = by (ℕ_discrete owner (i + 1)) (dec_lt 0 (get_or cou
         let other = served_other owner (i + 1) counts (omega arith) e in
         rw (client_not (i + 1) owner e, client_not (i + 1) (served_by owner counts) other) (omega arith)
 
-pub less_other : (served i : ℕ) (counts : List ℕ) → served ≢ i + 1 → get_or (less_one served counts) i 0 ≡ get_or counts i 0
+pub less_other : (served i : ℕ) (counts : List ℕ) → served ≢ i + 1
+    → get_or (less_one served counts) i 0 ≡ get_or counts i 0
 unfolding less_one
 less_other zero i counts h = refl
 less_other (suc k) i counts h = get_or-set_other counts k i (get_or counts k 0 - 1) 0 (λ e. h (omega arith))

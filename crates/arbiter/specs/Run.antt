@@ -87,7 +87,8 @@ module _ (plan : Plan) (i : ℕ) where
   -- Section III: a busy period, in which the client "requests at least as much service as it has been allocated": after
   -- each number k of slots, what was pending and what was taken make at least m/f × k
   abbrev pub BusyOf : Arbiter → List (List ℕ) → Type 0
-  BusyOf arb xss = (k : ℕ) → k ≤ length xss → slots_in * k ≤ plan.f * (count_of arb i + taken_of plan i arb (take k xss))
+  BusyOf arb xss =
+      (k : ℕ) → k ≤ length xss → slots_in * k ≤ plan.f * (count_of arb i + taken_of plan i arb (take k xss))
 
   -- Definition 1: x/y is a "service latency .. such that the provided service .. is bounded by Equation (1) during a
   -- busy period", at the allocated rate m/f

@@ -102,7 +102,8 @@ heard Is check number Refuses numbered stops none s x r is =
       refused = λ k offset. by k offset (read_of s).outcome refl;
     }
   where
-    by : (k offset : ℕ) (o : Outcome) → (read_of s).outcome ≡ o → or_else o (check (read_of s).plan x) ≡ Refused k offset
+    by : (k offset : ℕ) (o : Outcome) → (read_of s).outcome ≡ o
+        → or_else o (check (read_of s).plan x) ≡ Refused k offset
         → (j : ℕ) × (at : ℕ) × Refuses x j at r
     by k offset Fine e h = (k, offset, stops (read_of s).plan x r k offset is h)
     by k offset (Refused j at) e h =

@@ -1,7 +1,7 @@
-// The library for C callers; include/gwelathur.h declares it, and `capi_c` exports it. A plan is handed in as the bytes of
-// its stream, a slice, which C passes as pointer and length; every number is a usize; answers are stored in lent numbers
-// and in arrays of fixed size, which C passes as pointers. Each function returns the refusal's number, 0 where nothing is
-// refused; the two that write text return its length. `inner` stores the answers.
+// The library for C callers; include/gwelathur.h declares it, and `capi_c` exports it. A plan is handed in as the bytes
+// of its stream, a slice, which C passes as pointer and length; every number is a usize; answers are stored in lent
+// numbers and in arrays of fixed size, which C passes as pointers. Each function returns the refusal's number, 0 where
+// nothing is refused; the two that write text return its length. `inner` stores the answers.
 #![tactic(auto)]
 
 pub mod inner; // inner.rt

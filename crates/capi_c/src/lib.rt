@@ -1,5 +1,5 @@
-// The C interface: `capi`'s functions as a static library, one export each, with the same clauses. What each refuses and
-// what lent memory holds after stands in include/gwelathur.h.
+// The C interface: `capi`'s functions as a static library, one export each, with the same clauses. What each refuses
+// and what lent memory holds after stands in include/gwelathur.h.
 #![tactic(auto)]
 
 ghost use Rattle.std.specs.Prelude.{◌∷◌, []};

@@ -66,7 +66,8 @@ module _ (n : ℕ) (front : Front) (is : IsFront n front) where
   pub nodes_small : (i : ℕ) → i < n → get_or front.nodes i 0 < 512
   nodes_small i l = rw (is.nodes i l) (node_below (i + 1) (owners_of front) 9 (omega (arith, is.table.long)))
 
-  pub front_need : (trees : List ℕ) → need_of trees (λ i. get_or front.nodes i 0) n ≡ need_after trees n (owners_of front)
+  pub front_need : (trees : List ℕ)
+      → need_of trees (λ i. get_or front.nodes i 0) n ≡ need_after trees n (owners_of front)
   front_need trees = need_same trees (λ i. get_or front.nodes i 0) (λ i. node_of (i + 1) (owners_of front)) n is.nodes
 
   pub owners_more : (owner : ℕ) → front.long < length front.owners

@@ -28,4 +28,5 @@ wait_entry =
 
 -- `default_wait`: 15 is never given
 abbrev pub default_entry : Entry
-default_entry = says Same (λ plan c. IsWaitFor plan c default_waiting) figure_check figure_numbers wait_said wait.Refused
+default_entry =
+    says Same (λ plan c. IsWaitFor plan c default_waiting) figure_check figure_numbers wait_said wait.Refused

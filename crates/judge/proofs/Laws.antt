@@ -57,7 +57,8 @@ pub covers_round : (x : Client) (f m j w : ℕ) → enough x f m ≡ true → co
     → covers x f m (j + f) (w + m) ≡ true
 covers_round x f m j w rate h = covers_pass x f m (j + f) (w + m) (omega (arith, covers_true x f m j w h))
 
-module _ (x : Client) {own : ℕ → ℕ} {f : ℕ} (frame : Frame own f (slots_of own f)) (rate : has_rate x own f ≡ true) where
+module _ (x : Client) {own : ℕ → ℕ} {f : ℕ} (frame : Frame own f (slots_of own f))
+    (rate : has_rate x own f ≡ true) where
   frame_later : (s j : ℕ) → in_time x own f s j ≡ true → in_time x own f s (j + f) ≡ true
   frame_later s j h = rw (within_add own s j f, within_frame frame (s + j)) (covers_round x f _ _ _ rate h)
 
@@ -179,7 +180,8 @@ pub judged_none : (plan : Plan) (from : ℕ) → IsJudgement plan from from acce
 judged_none plan from = (record { each = λ i low high. absurd (omega arith) }, refl, refl, refl)
 
 -- a client judged by itself
-pub verdict_by_lem : (plan : Plan) (i c : ℕ) → c ≡ i + 1 → (verdict : Verdict) (k s j : ℕ) → JudgedAs plan i c verdict k s j
+pub verdict_by_lem : (plan : Plan) (i c : ℕ) → c ≡ i + 1 → (verdict : Verdict) (k s j : ℕ)
+    → JudgedAs plan i c verdict k s j
     → IsVerdict (client_of plan i) (own_of plan c) plan.f verdict
 verdict_by_lem plan i c e Ok k s j h = rw e (h.0.each i (omega arith) (omega arith))
 verdict_by_lem plan i c e Rate k s j h =

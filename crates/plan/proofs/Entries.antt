@@ -6,7 +6,8 @@ use Rattle.records.proofs.Entry.{offset_none, tight_finds, tight_equal, tie}
 use Rattle.plan.specs.Plan.{no_client, no_plan, Same, SameRequired, with_table}
 use Rattle.plan.specs.Check.{requirements_check, plan_check, asked_check}
 use Rattle.plan.specs.Entries.{requirements_numbers, plan_numbers, asked_numbers}
-use Rattle.plan.specs.Entries.{requirements_entry, check_entry, asked_entry, no_client_entry, no_plan_entry, table_entry}
+use Rattle.plan.specs.Entries.{requirements_entry, check_entry, asked_entry, no_client_entry, no_plan_entry}
+use Rattle.plan.specs.Entries.{table_entry}
 use Rattle.plan.proofs.Laws.{requirements_same, same_check, same_asked}
 use Rattle.plan.proofs.Refusals.{requirements_gives, plan_gives, asked_gives}
 use Rattle.plan.proofs.Refusals.{requirements_offset, plan_offset, asked_offset}

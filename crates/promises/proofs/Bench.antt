@@ -44,7 +44,8 @@ use Rattle.search.specs.Search.{search_check, size_check, IsSearched}
 use Rattle.search.proofs.Questions.{search_fine}
 use Rattle.search.proofs.Entries.{search_tight}
 use Rattle.arbiter.specs.declared.Arbiter.{Arbiter}
-use Rattle.arbiter.specs.Step.{rule_for, served_by, less_one, advanced, position_check, arrivals_check, step_check, step_of}
+use Rattle.arbiter.specs.Step.{rule_for, served_by, less_one, advanced, position_check, arrivals_check, step_check}
+use Rattle.arbiter.specs.Step.{step_of}
 use Rattle.arbiter.specs.Run.{record_after, total_of, served_of, pending_of}
 use Rattle.promises.specs.Bench.{Schedule, schedule_plan, search_plan, little, Question, figure, waiting}
 use Rattle.promises.specs.Bench.{default_wait, refused_figure, refused_wait, accepted, late, found, none}
@@ -128,7 +129,8 @@ test (late t client s j) =
     pick (fine_test (plan_check (schedule_plan client t))) (late_test client (own_by t) t.f s j) false
 test (found f n client table) =
     pick (fine_test (search_check (search_plan f n client))) (best_test (search_plan f n client) table) false
-test (none f n client) = pick (fine_test (search_check (search_plan f n client))) (none_test (search_plan f n client)) false
+test (none f n client) =
+    pick (fine_test (search_check (search_plan f n client))) (none_test (search_plan f n client)) false
 test (search_refused f n client number) = refused_test (search_check (search_plan f n client)) number
 test (searchable f n client) = fine_test (search_check (search_plan f n client))
 test (steps plan arb xs goes) = step_test (step_of plan arb xs) goes
@@ -312,7 +314,8 @@ right (late t client s j) h =
     let g = both_true (fine_test (plan_check (schedule_plan client t))) (late_test client (own_by t) t.f s j) h in
     late_right t client g.0 s j g.1
 right (found f n client table) h =
-    let g = both_true (fine_test (search_check (search_plan f n client))) (best_test (search_plan f n client) table) h in
+    let g = both_true (fine_test (search_check (search_plan f n client))) (best_test (search_plan f n client) table) h
+    in
     found_right f n client g.0 table g.1
 right (none f n client) h =
     let g = both_true (fine_test (search_check (search_plan f n client))) (none_test (search_plan f n client)) h in
@@ -340,9 +343,10 @@ all_right [] h = tt
 all_right (q ∷ qs) h = let g = both_true (test q) (test_all qs) h in (right q g.0, all_right qs g.1)
 
 pub bench : AllRight questions
-unfolding questions test own_by scaled_of lack_from largest lack within wait_of ok_test late_test fine_test none_test best_test
-    accept_test every_table all_below better_test lex_test owned enough covers own_in search_plan search_check size_check
-    schedule_plan plan_check requirements_check owners_check client_check_of owner_check_of client_check owner_check range_check
-    first_of firsts onto padded step_test answer_test numbers_test step_of step_check position_check arrivals_check advanced
-    served_by less_one rule_for refused_test figure_check wait_check asked_check record_after total_of
+unfolding questions test own_by scaled_of lack_from largest lack within wait_of ok_test late_test fine_test none_test
+    best_test accept_test every_table all_below better_test lex_test owned enough covers own_in search_plan search_check
+    size_check schedule_plan plan_check requirements_check owners_check client_check_of owner_check_of client_check
+    owner_check range_check first_of firsts onto padded step_test answer_test numbers_test step_of step_check
+    position_check arrivals_check advanced served_by less_one rule_for refused_test figure_check wait_check asked_check
+    record_after total_of
 bench = all_right questions refl

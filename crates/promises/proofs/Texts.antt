@@ -17,8 +17,10 @@ use Rattle.plan.specs.Check.{owners_check, plan_check}
 use Rattle.plan.proofs.Laws.{Checked, plan_fine}
 use Rattle.text.specs.Text.{bytes, decimal, decimal_of, Lines}
 use Rattle.stream.specs.Kind.{class_of}
-use Rattle.stream.specs.Read.{next_place, place, due_check, head_record_check, client_at, number_check, client_record_check}
-use Rattle.stream.specs.Read.{client_due_check, slot_check, slot_due_check, row_record_check, row_due_check, end_record_check}
+use Rattle.stream.specs.Read.{next_place, place, due_check, head_record_check, client_at, number_check}
+use Rattle.stream.specs.Read.{client_record_check}
+use Rattle.stream.specs.Read.{client_due_check, slot_check, slot_due_check, row_record_check, row_due_check}
+use Rattle.stream.specs.Read.{end_record_check}
 use Rattle.stream.specs.Read.{rest_check, read_check, client_in, owner_in, plan_of, read_of}
 use Rattle.figures.specs.declared.FigureAnswer.TheVariants as figures
 use Rattle.figures.specs.declared.WaitAnswer.TheVariants as wait
@@ -27,7 +29,8 @@ use Rattle.figures.proofs.Laws.{frame_of}
 use Rattle.judge.specs.declared.Verdict.TheVariants.{Ok, Late}
 use Rattle.judge.specs.Rules.{enough, covers, IsOk, IsLate}
 use Rattle.judge.proofs.Laws.{first_at, judged_none}
-use Rattle.listing.specs.Listing.{figures_text, wait_text, verdict_text, line_text, refused_text, closing_text, homing_line}
+use Rattle.listing.specs.Listing.{figures_text, wait_text, verdict_text, line_text, refused_text, closing_text}
+use Rattle.listing.specs.Listing.{homing_line}
 use Rattle.listing.specs.Listing.{IsReportLine, IsClosing, IsReportOf, IsHomingOf, IsHomingLine, IsReport, IsHoming}
 use Rattle.listing.proofs.Laws.{client_asked}
 use Rattle.listing.proofs.Once.{report_once, homing_once}
@@ -40,14 +43,15 @@ use Rattle.promises.proofs.Bench.{only_answer}
 -- ---- the plan
 
 report_read : read_of report_stream ≡ record { outcome = Fine; plan = report_plan }
-unfolding report_stream read_of read_check head_record_check rest_check end_record_check due_check record_check over_check class_of
-    first_of client_due_check client_record_check number_check client_check client_at row_due_check row_record_check slot_due_check
-    slot_check owner_check range_check next_place place plan_of client_in owner_in firsts onto padded
+unfolding report_stream read_of read_check head_record_check rest_check end_record_check due_check record_check
+    over_check class_of first_of client_due_check client_record_check number_check client_check client_at row_due_check
+    row_record_check slot_due_check slot_check owner_check range_check next_place place plan_of client_in owner_in
+    firsts onto padded
 report_read = refl
 
 report_fine : plan_check report_plan ≡ Fine
-unfolding plan_check requirements_check owners_check client_check_of owner_check_of client_check owner_check range_check first_of
-    firsts onto padded
+unfolding plan_check requirements_check owners_check client_check_of owner_check_of client_check owner_check range_check
+    first_of firsts onto padded
 report_fine = refl
 
 report_checked : Checked report_plan
@@ -65,7 +69,8 @@ first_figures = figure_allowed report_plan 1 report_checked (omega arith) (omega
 first_wait : IsWaitFor report_plan 1 default_waiting (wait.Given 5)
 unfolding wait_of
 first_wait =
-    wait_allowed report_plan 1 report_checked (omega arith) (omega arith) _ refl 4 12 first_figured default_waiting 5 refl
+    wait_allowed report_plan 1 report_checked (omega arith) (omega arith) _ refl 4 12 first_figured
+    default_waiting 5 refl
 
 first_late : IsLate (client_of report_plan 0) (own_of report_plan 1) 8 3 5
 unfolding late_test all_below enough covers within own_in firsts onto padded
@@ -105,7 +110,8 @@ second_figures = figure_allowed report_plan 2 report_checked (omega arith) (omeg
 second_wait : IsWaitFor report_plan 2 default_waiting (wait.Given 7)
 unfolding wait_of
 second_wait =
-    wait_allowed report_plan 2 report_checked (omega arith) (omega arith) _ refl 2 6 second_figured default_waiting 7 refl
+    wait_allowed report_plan 2 report_checked (omega arith) (omega arith) _ refl 2 6 second_figured
+    default_waiting 7 refl
 
 second_ok : IsOk (client_of report_plan 1) (own_of report_plan 2) 8
 unfolding ok_test all_below enough covers within own_in firsts onto padded

@@ -17,7 +17,8 @@ read_as s plan = record { stream = s; reading = record { outcome = Fine; plan = 
 
 -- "A refused read returns the number, the offset .., and a plan with every number 0"
 abbrev pub refused_with : List ℕ → (number offset : ℕ) → Example
-refused_with s number offset = record { stream = s; reading = record { outcome = Refused number offset; plan = no_plan } }
+refused_with s number offset =
+    record { stream = s; reading = record { outcome = Refused number offset; plan = no_plan } }
 
 -- a head: f 2, n 1
 abbrev pub head : List ℕ

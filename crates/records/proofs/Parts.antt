@@ -30,7 +30,8 @@ pub part_run : (s : List ℕ) (at w : ℕ) → at + w ≤ length s → part s at
 part_run s at w h = ap (λ (x : ℕ). part s x w) (sym (add-zero at)) ∙ run_from s at 0 w (omega arith)
 
 -- an element of a part that is known
-pub part_get : (s : List ℕ) (at w : ℕ) (r : List ℕ) → part s at w ≡ r → (t : ℕ) → t < w → get_or s (at + t) 0 ≡ get_or r t 0
+pub part_get : (s : List ℕ) (at w : ℕ) (r : List ℕ) → part s at w ≡ r → (t : ℕ) → t < w
+    → get_or s (at + t) 0 ≡ get_or r t 0
 unfolding part
 part_get s at w r e t h =
     sym (get_or-take w (drop at s) t 0 h ∙ get_or-drop at s t 0) ∙ ap (λ (x : List ℕ). get_or x t 0) e

@@ -125,7 +125,8 @@ pub unless_within : (most : ℕ) (b : Bool) (k offset : ℕ) → offset ≤ most
 unless_within most true k offset h = omega arith
 unless_within most false k offset h = h
 
-pub record_within : (s : List ℕ) (at class body : ℕ) → at ≤ length s → offset_of (record_check s at class body) ≤ length s
+pub record_within : (s : List ℕ) (at class body : ℕ) → at ≤ length s
+    → offset_of (record_check s at class body) ≤ length s
 unfolding record_check
 record_within s at class body h =
     let In : Outcome → Type 0 = λ (o : Outcome). offset_of o ≤ length s in

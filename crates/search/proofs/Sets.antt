@@ -52,7 +52,8 @@ from_one c x y (a ∷ u) (b ∷ v) e h =
     let here = child_one c x y a b below.0 in
     (here.0, place here.1 below.1)
   where
-    place : is_client c a ≡ is_client c b → ((j : ℕ) → is_client c (get_or u j 0) ≡ is_client c (get_or v j 0)) → (j : ℕ)
+    place : is_client c a ≡ is_client c b → ((j : ℕ) → is_client c (get_or u j 0) ≡ is_client c (get_or v j 0))
+        → (j : ℕ)
         → is_client c (get_or (a ∷ u) j 0) ≡ is_client c (get_or (b ∷ v) j 0)
     place first later zero = first
     place first later (suc j) = later j

@@ -83,7 +83,8 @@ pub reread_tight : Tight reread_entry
 unfolding reread_of
 reread_tight =
     tight_fixed reread_entry (λ plan more. reread_of plan) (λ plan more r is. is) (λ plan more. refl)
-    (λ plan more k offset e. rw (offset_none (plan_check plan) (plan_offset plan) e)) (λ plan more. plan_gives plan) refl
+    (λ plan more k offset e. rw (offset_none (plan_check plan) (plan_offset plan) e))
+    (λ plan more. plan_gives plan) refl
     (λ plan other same more r is. is ∙ same_rereading plan other same)
 
 pub reread_tied : Tied reread_entry (contract reread.Pre reread.Post)

@@ -159,7 +159,8 @@ module _ (plan : Plan) (ok : Checked plan) (held : Held plan) where
   clients_at = refl
 
   client_place : (i : ℕ) → i ≤ plan.n
-      → place (stream_of plan) (to_clients (stream_of plan)) i ≡ length (head_record plan ++ many (client_record plan) i)
+      → place (stream_of plan) (to_clients (stream_of plan)) i
+      ≡ length (head_record plan ++ many (client_record plan) i)
   unfolding client_record client_bytes
   client_place i l =
       ap (λ (k : ℕ). place (stream_of plan) k i) clients_at
@@ -239,7 +240,8 @@ module _ (plan : Plan) (ok : Checked plan) (held : Held plan) where
   rows_forth =
       first_all (row_due_check (stream_of plan) plan.f plan.n (to_rows (stream_of plan) plan.n)) (rows_of plan.f)
       (λ (j : ℕ) (l : j < rows_of plan.f).
-      row_forth plan (stream_of plan) (place (stream_of plan) (to_rows (stream_of plan) plan.n) j) j ok (row_stands j l))
+      row_forth plan (stream_of plan) (place (stream_of plan) (to_rows (stream_of plan) plan.n) j) j ok
+      (row_stands j l))
 
   end_forth : end_record_check (stream_of plan) (to_end (stream_of plan) plan.f plan.n) ≡ Fine
   unfolding end_record_check class_of
@@ -248,7 +250,8 @@ module _ (plan : Plan) (ok : Checked plan) (held : Held plan) where
       let at : ℕ = to_end s plan.f plan.n in
       let due : due_check s at end_kind ≡ Fine = due_pass s at end_kind refl end_whole in
       let next = next_whole s at end_kind end_whole.found in
-      let over : over_check s (next_place s at) ≡ Fine = over_pass s (next_place s at) (omega (arith, next, end_length)) in
+      let over : over_check s (next_place s at) ≡ Fine =
+      over_pass s (next_place s at) (omega (arith, next, end_length)) in
       simp (due, over)
 
   read_forth : read_check (stream_of plan) ≡ Fine
@@ -256,7 +259,8 @@ module _ (plan : Plan) (ok : Checked plan) (held : Held plan) where
   read_forth = rw (head_forth, f_at, n_at, clients_forth, rows_forth, end_forth)
 
   -- every number is found
-  client_read_back : (i : ℕ) → i < plan.n → client_in (stream_of plan) (to_clients (stream_of plan)) i ≡ client_of plan i
+  client_read_back : (i : ℕ) → i < plan.n
+      → client_in (stream_of plan) (to_clients (stream_of plan)) i ≡ client_of plan i
   unfolding client_in client_record
   client_read_back i l =
       client_same (stream_of plan) (place (stream_of plan) (to_clients (stream_of plan)) i) (i + 1) (client_of plan i)

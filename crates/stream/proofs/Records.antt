@@ -61,7 +61,8 @@ unfolding class_of
 class_due due kind h = eqb-true kind due (class_by (is_reserved kind) (eqb kind due) h)
 
 -- a record's length matters only where its kind is the one due
-pub due_body : (s : List ℕ) (at due : ℕ) → record_check s at (class_of due (get_or s at 0)) (body_of due) ≡ due_check s at due
+pub due_body : (s : List ℕ) (at due : ℕ)
+    → record_check s at (class_of due (get_or s at 0)) (body_of due) ≡ due_check s at due
 unfolding due_check
 due_body s at due =
     let kind = get_or s at 0 in

@@ -39,7 +39,8 @@ due_gives : (s : List ℕ) (at due : ℕ) → OfReading (due_check s at due)
 unfolding due_check class_of
 due_gives s at due =
     let kind : ℕ = get_or s at 0 in
-    record_gives read_numbers s at (class_of due kind) (body_of kind) refl (class_among (is_reserved kind) (eqb kind due))
+    record_gives read_numbers s at (class_of due kind) (body_of kind) refl
+    (class_among (is_reserved kind) (eqb kind due))
 
 head_gives : (s : List ℕ) → OfReading (head_record_check s)
 unfolding head_record_check
@@ -95,7 +96,8 @@ rest_gives s f n =
 pub read_gives : (s : List ℕ) → Gives read_numbers (read_check s)
 unfolding read_check
 read_gives s =
-    or_each OfReading (head_record_check s) (rest_check s (f_in s) (n_in s)) (head_gives s) (rest_gives s (f_in s) (n_in s))
+    or_each OfReading (head_record_check s) (rest_check s (f_in s) (n_in s)) (head_gives s)
+    (rest_gives s (f_in s) (n_in s))
 
 -- ---- writing
 

@@ -67,7 +67,8 @@ module _ (s : List ℕ) (z : ReadFine s) where
   row : (j : ℕ) → j < rows_of (f_in s) → RowFine s (f_in s) (n_in s) (place s (to_rows s (n_in s)) j) j
   row j l = rows_fine s (f_in s) (n_in s) (to_rows s (n_in s)) (rows_of (f_in s)) z.rest.rows j l
 
-  clients_back : Bytes s → many (client_record (plan_of s)) (n_in s) ++ drop (to_rows s (n_in s)) s ≡ drop (to_clients s) s
+  clients_back : Bytes s
+      → many (client_record (plan_of s)) (n_in s) ++ drop (to_rows s (n_in s)) s ≡ drop (to_clients s) s
   unfolding client_record place
   clients_back b =
       many_part (client_record (plan_of s)) s (place s (to_clients s)) (n_in s)

@@ -7,8 +7,10 @@ ghost use Rattle.plan.specs.Plan.{no_client};
 ghost use Rattle.plan.specs.Check.{owner_check};
 ghost use Rattle.stream.specs.Kind.{head_kind, client_kind, row_kind, whole_of, class_of, rows_of};
 ghost use Rattle.stream.specs.Read.{to_clients, place, due_check, head_record_check, client_at, number_check};
-ghost use Rattle.stream.specs.Read.{client_record_check, client_due_check, slot_check, slot_due_check, row_record_check};
-ghost use Rattle.stream.specs.Read.{row_due_check, end_record_check, rest_check, read_check, client_in, owner_in, plan_of};
+ghost use Rattle.stream.specs.Read.{client_record_check, client_due_check, slot_check, slot_due_check};
+ghost use Rattle.stream.specs.Read.{row_record_check};
+ghost use Rattle.stream.specs.Read.{row_due_check, end_record_check, rest_check, read_check, client_in, owner_in};
+ghost use Rattle.stream.specs.Read.{plan_of};
 
 use super::kind;
 use plan::{Client, Plan, inner, no_client};

@@ -10,7 +10,11 @@ returns-in-Refused c =
     let told = c.in-Refused.is in
     let read = c.read-reading in
     let s = c.args.s.now in
-    let put = c.put_refusal.ensures in record { puts = refused_put IsHomingOf s read.result _ _ read.ensures.is told put.put; lendable = put.lendable }
+    let put = c.put_refusal.ensures in
+    record {
+      puts = refused_put IsHomingOf s read.result _ _ read.ensures.is told put.put;
+      lendable = put.lendable;
+    }
 
 pub put_homing-requires : goal.put_homing-requires
 put_homing-requires c =
@@ -23,4 +27,8 @@ returns c =
     let told = c.in_default.is in
     let read = c.read-reading in
     let s = c.args.s.now in
-    let put = c.put_homing.ensures in record { puts = plan_put IsHomingOf s read.result read.ensures.is told put.puts; lendable = put.lendable }
+    let put = c.put_homing.ensures in
+    record {
+      puts = plan_put IsHomingOf s read.result read.ensures.is told put.puts;
+      lendable = put.lendable;
+    }

@@ -10,7 +10,11 @@ returns-in-Refused c =
     let told = c.in-Refused.is in
     let read = c.read-reading in
     let s = c.args.s.now in
-    let put = c.put_refusal.ensures in record { puts = refused_put IsReportOf s read.result _ _ read.ensures.is told put.put; lendable = put.lendable }
+    let put = c.put_refusal.ensures in
+    record {
+      puts = refused_put IsReportOf s read.result _ _ read.ensures.is told put.put;
+      lendable = put.lendable;
+    }
 
 pub put_report-requires : goal.put_report-requires
 put_report-requires c =
@@ -23,4 +27,8 @@ returns c =
     let told = c.in_default.is in
     let read = c.read-reading in
     let s = c.args.s.now in
-    let put = c.put_report.ensures in record { puts = plan_put IsReportOf s read.result read.ensures.is told put.puts; lendable = put.lendable }
+    let put = c.put_report.ensures in
+    record {
+      puts = plan_put IsReportOf s read.result read.ensures.is told put.puts;
+      lendable = put.lendable;
+    }

@@ -19,7 +19,11 @@ mend-mended-requires c =
     let plan = idle_plan args.f args.n args.clients in
     let ok = search_fine plan (sym c.check_search-checked.ensures ∙ c.in_default.is) in
     let bounds = ok.bounds in
-    let idle = idle_slots args.f args.n args.clients in record { le_f = (bounds.f_low, bounds.f_high, bounds.n_high, omega (arith, idle, ok.short)); by_index = idle_owners args.f args.n args.clients }
+    let idle = idle_slots args.f args.n args.clients in
+    record {
+      le_f = (bounds.f_low, bounds.f_high, bounds.n_high, omega (arith, idle, ok.short));
+      by_index = idle_owners args.f args.n args.clients;
+    }
 
 pub returns-then-found : goal.returns-then-found
 returns-then-found c =

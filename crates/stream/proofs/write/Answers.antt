@@ -16,7 +16,11 @@ returns-in-Refused c =
     let args = c.args in
     let check = c.check-outcome in
     let plan = args.plan in
-    let out = args.out.now in record { is = plan_refused plan out (sym check.ensures ∙ c.in-Refused.is); back = not_reread plan _ out }
+    let out = args.out.now in
+    record {
+      is = plan_refused plan out (sym check.ensures ∙ c.in-Refused.is);
+      back = not_reread plan _ out;
+    }
 
 pub stream_length-requires : goal.stream_length-requires
 stream_length-requires c =
@@ -31,7 +35,11 @@ returns-then-out-stream_length c =
     let check = c.check-outcome in
     let size = c.stream_length.ensures in
     let plan = args.plan in
-    let out = args.out.now in record { is = room_refused plan out (sym check.ensures ∙ c.in_default.is) (omega arith); back = not_reread plan _ out }
+    let out = args.out.now in
+    record {
+      is = room_refused plan out (sym check.ensures ∙ c.in_default.is) (omega arith);
+      back = not_reread plan _ out;
+    }
 
 pub put_stream-requires : goal.put_stream-requires
 put_stream-requires c =

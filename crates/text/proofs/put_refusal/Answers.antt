@@ -10,4 +10,8 @@ pub returns : goal.returns
 unfolding refusal_line
 returns c =
     let number = then c.put-at.ensures c.put_decimal-at.ensures.put in
-    let offset = then (then number c.put-at-2.ensures) c.put_decimal-at-2.ensures.put in record { put = then offset c.put.ensures; lendable = lendable c.put.result c.put.new.out (search rules) }
+    let offset = then (then number c.put-at-2.ensures) c.put_decimal-at-2.ensures.put in
+    record {
+      put = then offset c.put.ensures;
+      lendable = lendable c.put.result c.put.new.out (search rules);
+    }

@@ -19,7 +19,11 @@ arrive-requires c =
     let ok = step_fine _ _ _ c.requires in
     let eight : length args.pending.now ≡ 8 = search rules in
     let places : length args.turned.now ≡ 8 = search rules in
-    let n≤ = ok.checked.bounds.n_high in record { arrivals_len = ok.many; n_in_bounds = (omega (arith, n≤, eight), omega (arith, n≤, places)) }
+    let n≤ = ok.checked.bounds.n_high in
+    record {
+      arrivals_len = ok.many;
+      n_in_bounds = (omega (arith, n≤, eight), omega (arith, n≤, places));
+    }
 
 pub serve_owner-requires : goal.serve_owner-requires
 serve_owner-requires c =

@@ -8,7 +8,9 @@ use Rattle.explore.proofs.inner.children.Given as goal
 
 abbrev pub invariant-loop-i : goal.invariant-loop-i
 invariant-loop-i l =
-    (l.i ≤ l.n) × (length l.below ≡ 8) × ((j : ℕ) → j < l.i → get_or l.below j 0 ≡ child_of (j + 1) (get_or l.nodes j 0) l.owner)
+    (l.i ≤ l.n)
+    × (length l.below ≡ 8)
+    × ((j : ℕ) → j < l.i → get_or l.below j 0 ≡ child_of (j + 1) (get_or l.nodes j 0) l.owner)
 
 abbrev pub decreases-loop-i : goal.decreases-loop-i
 decreases-loop-i l = l.n - l.i

@@ -9,9 +9,17 @@ pub returns-in-Given : goal.returns-in-Given
 unfolding figures_text
 returns-in-Given c =
     let figures = c.in-Given.is in
-    let slots = then c.put_decimal-at.ensures.put c.put-at.ensures in record { put = rw figures (then slots c.put_decimal.ensures.put); upper_bound = search rules }
+    let slots = then c.put_decimal-at.ensures.put c.put-at.ensures in
+    record {
+      put = rw figures (then slots c.put_decimal.ensures.put);
+      upper_bound = search rules;
+    }
 
 pub returns-in-Refused : goal.returns-in-Refused
 unfolding figures_text
 returns-in-Refused c =
-    let figures = c.in-Refused.is in record { put = rw figures c.put.ensures; upper_bound = search rules }
+    let figures = c.in-Refused.is in
+    record {
+      put = rw figures c.put.ensures;
+      upper_bound = search rules;
+    }

@@ -35,4 +35,8 @@ pub returns : goal.returns
 returns c =
     let loop = c.loop-i in
     let e : loop.i ≡ c.args.plan.n = omega arith in
-    let bounds = (plan_fine c.args.plan c.requires).bounds in record { puts = rw e at loop.invariant.2; lendable = loop.invariant.3 (omega (arith, bounds.n_low)) }
+    let bounds = (plan_fine c.args.plan c.requires).bounds in
+    record {
+      puts = rw e at loop.invariant.2;
+      lendable = loop.invariant.3 (omega (arith, bounds.n_low));
+    }

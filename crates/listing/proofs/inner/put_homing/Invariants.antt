@@ -8,7 +8,10 @@ use Rattle.listing.proofs.inner.put_homing.Given as goal
 
 abbrev pub invariant-loop-i : goal.invariant-loop-i
 invariant-loop-i l =
-    (l.i ≤ l.n) × (l.next ≤ 42 * l.i) × Puts (Lines (IsHomingLine l.plan) l.i) l.initial.out 0 l.out l.next × (1 ≤ l.i → Lendable l.next l.out)
+    (l.i ≤ l.n)
+    × (l.next ≤ 42 * l.i)
+    × Puts (Lines (IsHomingLine l.plan) l.i) l.initial.out 0 l.out l.next
+    × (1 ≤ l.i → Lendable l.next l.out)
 
 abbrev pub decreases-loop-i : goal.decreases-loop-i
 decreases-loop-i l = l.n - l.i

@@ -10,4 +10,8 @@ unfolding line_text
 returns c =
     let number = then c.put_decimal-at.ensures.put c.put-at.ensures in
     let figures = then (then number c.put_figures-at.ensures.put) c.put-at-2.ensures in
-    let wait = then (then figures c.put_wait-at.ensures.put) c.put-at-3.ensures in record { put = then (then wait c.put_verdict-at.ensures.put) c.put.ensures; upper_bound = search rules }
+    let wait = then (then figures c.put_wait-at.ensures.put) c.put-at-3.ensures in
+    record {
+      put = then (then wait c.put_verdict-at.ensures.put) c.put.ensures;
+      upper_bound = search rules;
+    }

@@ -9,7 +9,10 @@ use Rattle.listing.proofs.inner.put_lines.Given as goal
 
 abbrev pub invariant-loop-i : goal.invariant-loop-i
 invariant-loop-i l =
-    (l.i ≤ l.n) × (l.next ≤ l.at + 89 * l.i) × Puts (Lines (IsReportLine l.plan) l.i) l.initial.out l.at l.out l.next × IsJudgement l.plan 0 l.i l.found
+    (l.i ≤ l.n)
+    × (l.next ≤ l.at + 89 * l.i)
+    × Puts (Lines (IsReportLine l.plan) l.i) l.initial.out l.at l.out l.next
+    × IsJudgement l.plan 0 l.i l.found
 
 abbrev pub decreases-loop-i : goal.decreases-loop-i
 decreases-loop-i l = l.n - l.i

@@ -11,4 +11,8 @@ unfolding refused_text
 returns c =
     let client = then c.put-at.ensures c.put_decimal-at.ensures.put in
     let space = then client c.put-at-2.ensures in
-    let verdict = then space c.put_verdict-at.ensures.put in record { put = then verdict c.put.ensures; lendable = lendable _ _ (search rules) }
+    let verdict = then space c.put_verdict-at.ensures.put in
+    record {
+      put = then verdict c.put.ensures;
+      lendable = lendable _ _ (search rules);
+    }

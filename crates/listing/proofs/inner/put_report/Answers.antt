@@ -8,4 +8,8 @@ returns c =
     let plan = c.args.plan in
     let lines = c.put_lines-listed in
     let put = c.put_closing.ensures in
-    let closing = closing_put plan lines.result.found c.requires lines.ensures.judgement put.put in record { puts = report_put plan c.put-at.ensures lines.ensures.puts closing; lendable = put.lendable }
+    let closing = closing_put plan lines.result.found c.requires lines.ensures.judgement put.put in
+    record {
+      puts = report_put plan c.put-at.ensures lines.ensures.puts closing;
+      lendable = put.lendable;
+    }

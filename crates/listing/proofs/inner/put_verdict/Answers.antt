@@ -7,14 +7,26 @@ use Rattle.listing.proofs.inner.put_verdict.Goals as goal
 pub returns-in-Ok : goal.returns-in-Ok
 unfolding verdict_text
 returns-in-Ok c =
-    let verdict = c.in-Ok.is in record { put = rw verdict c.put.ensures; upper_bound = search rules }
+    let verdict = c.in-Ok.is in
+    record {
+      put = rw verdict c.put.ensures;
+      upper_bound = search rules;
+    }
 
 pub returns-in-Rate : goal.returns-in-Rate
 unfolding verdict_text
 returns-in-Rate c =
-    let verdict = c.in-Rate.is in record { put = rw verdict c.put-in-Rate.ensures; upper_bound = search rules }
+    let verdict = c.in-Rate.is in
+    record {
+      put = rw verdict c.put-in-Rate.ensures;
+      upper_bound = search rules;
+    }
 
 pub returns-in-Late : goal.returns-in-Late
 unfolding verdict_text
 returns-in-Late c =
-    let verdict = c.in-Late.is in record { put = rw verdict c.put-in-Late.ensures; upper_bound = search rules }
+    let verdict = c.in-Late.is in
+    record {
+      put = rw verdict c.put-in-Late.ensures;
+      upper_bound = search rules;
+    }

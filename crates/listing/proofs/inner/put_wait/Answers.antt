@@ -7,9 +7,17 @@ use Rattle.listing.proofs.inner.put_wait.Goals as goal
 pub returns-in-Given : goal.returns-in-Given
 unfolding wait_text
 returns-in-Given c =
-    let wait = c.in-Given.is in record { put = rw wait c.put_decimal.ensures.put; upper_bound = search rules }
+    let wait = c.in-Given.is in
+    record {
+      put = rw wait c.put_decimal.ensures.put;
+      upper_bound = search rules;
+    }
 
 pub returns-in-Refused : goal.returns-in-Refused
 unfolding wait_text
 returns-in-Refused c =
-    let wait = c.in-Refused.is in record { put = rw wait c.put.ensures; upper_bound = search rules }
+    let wait = c.in-Refused.is in
+    record {
+      put = rw wait c.put.ensures;
+      upper_bound = search rules;
+    }

@@ -34,7 +34,11 @@ pub leaf-requires : goal.leaf-requires
 leaf-requires c =
     let args = c.args in
     let leaves = leaves_shifted args.g (omega arith) in
-    let start = c.requires in record { le_f = (start.0, start.1, start.2, start.3, start.4); g_bound = (omega (arith, leaves), omega (arith, leaves, leaves_doubled args.g)) }
+    let start = c.requires in
+    record {
+      le_f = (start.0, start.1, start.2, start.3, start.4);
+      g_bound = (omega (arith, leaves), omega (arith, leaves, leaves_doubled args.g));
+    }
 
 pub returns-then-x-leaves-2 : goal.returns-then-x-leaves-2
 returns-then-x-leaves-2 c =

@@ -10,7 +10,10 @@ use Rattle.stream.specs.Read.{client_due_check}
 use Rattle.stream.proofs.reader.check_clients.Given as goal
 
 abbrev pub invariant-loop-i : goal.invariant-loop-i
-invariant-loop-i l = (l.i ≤ l.n) × (first_of (client_due_check l.s l.at) l.i ≡ Fine) × (l.to ≡ l.at + whole_of client_kind * l.i)
+invariant-loop-i l =
+    (l.i ≤ l.n)
+    × (first_of (client_due_check l.s l.at) l.i ≡ Fine)
+    × (l.to ≡ l.at + whole_of client_kind * l.i)
 
 abbrev pub decreases-loop-i : goal.decreases-loop-i
 decreases-loop-i l = l.n - l.i

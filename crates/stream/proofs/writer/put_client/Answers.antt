@@ -10,4 +10,8 @@ pub returns : goal.returns
 unfolding client_bytes
 returns c =
     let number = then c.put_byte-a.ensures c.put_byte-b.ensures in
-    let rate = then (then number c.put_word-c.ensures) c.put_word-d.ensures in record { put = then (then rate c.put_word-e.ensures) c.put_word.ensures; words = search rules }
+    let rate = then (then number c.put_word-c.ensures) c.put_word-d.ensures in
+    record {
+      put = then (then rate c.put_word-e.ensures) c.put_word.ensures;
+      words = search rules;
+    }

@@ -44,4 +44,8 @@ shape_of-out c = put_length c.loop-i.invariant.1
 pub returns : goal.returns
 returns c =
     let args = c.args in
-    let e : c.loop-i.i ≡ args.plan.n = omega arith in record { put = rw e at c.loop-i.invariant.1; held = rw e at c.loop-i.invariant.2 }
+    let e : c.loop-i.i ≡ args.plan.n = omega arith in
+    record {
+      put = rw e at c.loop-i.invariant.1;
+      held = rw e at c.loop-i.invariant.2;
+    }

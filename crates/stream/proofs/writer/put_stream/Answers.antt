@@ -40,4 +40,8 @@ pub returns : goal.returns
 unfolding stream_of
 returns c =
     let clients = c.put_clients-to_rows.ensures in
-    let rows = then (then c.put_head-to_clients.ensures clients.put) c.put_rows-to_end.ensures in record { put = then rows c.put_byte.ensures; held = clients.held }
+    let rows = then (then c.put_head-to_clients.ensures clients.put) c.put_rows-to_end.ensures in
+    record {
+      put = then rows c.put_byte.ensures;
+      held = clients.held;
+    }

@@ -7,7 +7,10 @@ use Rattle.records.specs.Put.{Put}
 use Rattle.text.proofs.inner.put.Given as goal
 
 abbrev pub invariant-loop-i : goal.invariant-loop-i
-invariant-loop-i l = (l.i ≤ length l.text) × (l.next ≡ l.at + l.i) × Put l.initial.out l.at (take l.i l.text) l.out l.next
+invariant-loop-i l =
+    (l.i ≤ length l.text)
+    × (l.next ≡ l.at + l.i)
+    × Put l.initial.out l.at (take l.i l.text) l.out l.next
 
 abbrev pub decreases-loop-i : goal.decreases-loop-i
 decreases-loop-i l = length l.text - l.i

@@ -10,4 +10,8 @@ put_digits-requires c =
 
 pub returns : goal.returns
 returns c =
-    let put = c.put_digits.ensures in record { put = put; upper_bound = omega (arith, put.place, twenty_most c.args.x c.ranges.x.fits) }
+    let put = c.put_digits.ensures in
+    record {
+      put = put;
+      upper_bound = omega (arith, put.place, twenty_most c.args.x c.ranges.x.fits);
+    }
