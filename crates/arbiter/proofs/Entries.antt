@@ -2,13 +2,6 @@
 -- Assumes nothing.
 use mathlib.Core.Path.{◌≡◌, refl, ap, subst, ◌∙◌}
 use lib.ListN.{length}
-use base.Logic.{emp}
-use package.contract.Lifetimes.{Lfts}
-use denote.Triple.Entry.{Args}
-use denote.Triple.Clauses.{ClausesAt, AtExit}
-use borrow.Fn.Claims.{AllOf}
-use borrow.Fn.World.{w₀}
-use borrow.Fn.Read.{ReadAt, no_know, r_top, r_last}
 use Rattle.records.specs.Said.{said_number}
 use Rattle.records.specs.Entry.{Tight, contract, Tied}
 use Rattle.records.proofs.Entry.{both, tight_fixed, tie}
@@ -21,7 +14,7 @@ use Rattle.arbiter.proofs.Slots.{step_refused, step_number}
 use Rattle.arbiter.proofs.Same.{same_step}
 use Rattle.arbiter.proofs.step.Reads as step
 use Rattle.arbiter.proofs.step_lending.Reads as step_lending
-use Rattle.arbiter.specs.contracts.step_in_place as step_in_place
+use Rattle.arbiter.proofs.step_in_place.Reads as step_in_place
 
 -- what is given is what a step gives, handed back
 tight_steps : {R : Type 0} (Is : R → Stepped → Type 0) (back : Stepped → R) (served : R → Served)
@@ -50,26 +43,7 @@ in_place_tight =
     tight_steps (λ r s. (r.0 ≡ s.served) × (r.1 ≡ s.next)) (λ s. (s.served, s.next)) (λ r. r.0)
     (λ r s is. both is.0 is.1) (λ s. refl)
 
--- for a function that is lent a struct the kit makes no `Pre` and no `Post`: here is what its words in lib.rt ask and
--- tell, by the kit's own reading of no clause and of a plain fact
-module _ (κs : Lfts 2) (a : Args step_in_place.signature κs) where
-  abbrev clauses : ClausesAt w₀.𝓤 step_in_place.ended κs
-  clauses = step_in_place.clauses w₀.𝓛 w₀.𝓜.mem w₀.𝓡.run κs a
-
-  abbrev asked : ReadAt w₀ (λ w. emp w.𝓤) no_know (clauses.requires tt)
-  asked = r_top
-
-  abbrev pub InPlacePre : Type 0
-  InPlacePre = AllOf asked.owes
-
-  module _ (r : Served) (z : AtExit step_in_place.ended κs) where
-    abbrev told : ReadAt w₀ (λ w. emp w.𝓤) no_know (clauses.ensures tt r z)
-    told = r_last _
-
-    abbrev pub InPlacePost : Type 0
-    InPlacePost = AllOf told.tells
-
-pub in_place_tied : Tied in_place_entry (contract InPlacePre InPlacePost)
+pub in_place_tied : Tied in_place_entry (contract step_in_place.Pre step_in_place.Post)
 in_place_tied =
     tie (λ a. a.0) (λ a. (a.1.0.now, a.1.1.0.now)) (λ r z. (r, z.1.0.now))
     (λ κs a. tt) (λ κs a r z. refl)

@@ -67,8 +67,8 @@ fn away_of(pending: u8, arrived: u8) -> u8
 
 // Each client's arrivals join its lent pending count, and those turned away are counted; places past n are kept.
 fn arrive(plan: Plan, pending: &mut [u8], arrivals: &[u8], turned: &mut [u8])
-    requires arrivals_len { length arrivals.now ≡ plan.n }
-    requires n_in_bounds { (plan.n ≤ length pending.old) × (plan.n ≤ length turned.old) }
+    requires one_each { length arrivals.now ≡ plan.n }
+    requires places { (plan.n ≤ length pending.old) × (plan.n ≤ length turned.old) }
     ensures pending_after { pending.new ≡ onto
         (λ i. queue (rule_of plan i) (get_or pending.old i 0) (get_or arrivals.now i 0))
         plan.n pending.old }

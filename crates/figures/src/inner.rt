@@ -116,8 +116,8 @@ pub fn asked_figure(plan: Plan, client: usize) -> FigureAnswer
 
 // The wait for this many requests, from a client's figure: rounded up.
 pub fn least_wait(f: usize, figure: Figure, waiting: usize) -> usize
-    requires f_bound { (f ≤ 64) × (1 ≤ figure.slots) × (figure.slots ≤ 64) }
-    requires scaled_bound { (figure.scaled ≤ 1024) × (waiting ≤ most_waiting) }
+    requires in_frame { (f ≤ 64) × (1 ≤ figure.slots) × (figure.slots ≤ 64) }
+    requires small { (figure.scaled ≤ 1024) × (waiting ≤ most_waiting) }
     ensures { IsWait f figure.slots figure.scaled waiting result }
 {
     let m = figure.slots;

@@ -25,7 +25,7 @@ use text::inner::{put, put_decimal};
 fn put_figures(out: &mut [u8; PAGE], at: usize, figures: FigureAnswer) -> usize
     requires { Room at 41 }
     ensures put { Put out.old at (figures_text figures) out.new result }
-    ensures upper_bound { result ≤ at + 41 }
+    ensures most { result ≤ at + 41 }
 {
     match figures {
         FigureAnswer::Given(figure) => {
@@ -41,7 +41,7 @@ fn put_figures(out: &mut [u8; PAGE], at: usize, figures: FigureAnswer) -> usize
 fn put_wait(out: &mut [u8; PAGE], at: usize, wait: WaitAnswer) -> usize
     requires { Room at 20 }
     ensures put { Put out.old at (wait_text wait) out.new result }
-    ensures upper_bound { result ≤ at + 20 }
+    ensures most { result ≤ at + 20 }
 {
     match wait {
         WaitAnswer::Given(slots) => put_decimal(out, at, slots),
@@ -53,7 +53,7 @@ fn put_wait(out: &mut [u8; PAGE], at: usize, wait: WaitAnswer) -> usize
 fn put_verdict(out: &mut [u8; PAGE], at: usize, verdict: Verdict) -> usize
     requires { Room at 4 }
     ensures put { Put out.old at (verdict_text verdict) out.new result }
-    ensures upper_bound { result ≤ at + 4 }
+    ensures most { result ≤ at + 4 }
 {
     match verdict {
         Verdict::Ok => put(out, at, b"ok"),
@@ -66,7 +66,7 @@ fn put_verdict(out: &mut [u8; PAGE], at: usize, verdict: Verdict) -> usize
 fn put_line(out: &mut [u8; PAGE], at: usize, line: Line) -> usize
     requires { Room at 89 }
     ensures put { Put out.old at (line_text line) out.new result }
-    ensures upper_bound { result ≤ at + 89 }
+    ensures most { result ≤ at + 89 }
 {
     let figures = line.figures;
     let wait = line.wait;
@@ -98,10 +98,10 @@ fn line_of(plan: Plan, client: usize, verdict: Verdict) -> Line
 
 // The report's lines, one for each client, at most eight. Each client is judged once, for its line and for the last.
 fn put_lines(out: &mut [u8; PAGE], at: usize, plan: Plan) -> Listed
-    requires plan_value { plan_check plan ≡ Fine }
+    requires checked { plan_check plan ≡ Fine }
     requires room { Room at (8 * 89) }
     ensures puts { Puts (Lines (IsReportLine plan) plan.n) out.old at out.new result.next }
-    ensures next_bound { result.next ≤ at + 8 * 89 }
+    ensures most { result.next ≤ at + 8 * 89 }
     ensures judgement { IsJudgement plan 0 plan.n result.found }
 {
     let n = plan.n;
@@ -173,7 +173,7 @@ fn homing_wait(plan: Plan, client: usize) -> WaitAnswer
 fn put_homing_line(out: &mut [u8; PAGE], at: usize, client: usize, wait: WaitAnswer) -> usize
     requires { Room at 42 }
     ensures put { Put out.old at (homing_line client wait) out.new result }
-    ensures upper_bound { result ≤ at + 42 }
+    ensures most { result ≤ at + 42 }
     ensures lendable { Lendable result out.new }
 {
     let at = put_decimal(out, at, client);

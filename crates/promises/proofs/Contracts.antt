@@ -35,6 +35,7 @@ use Rattle.judge.proofs.judge.Reads as judge_judge
 use Rattle.judge.proofs.verdict_of.Reads as judge_verdict_of
 use Rattle.search.proofs.search.Reads as search_search
 use Rattle.arbiter.proofs.step.Reads as arbiter_step
+use Rattle.arbiter.proofs.step_in_place.Reads as arbiter_step_in_place
 use Rattle.arbiter.proofs.step_lending.Reads as arbiter_step_lending
 use Rattle.text.proofs.put_refusal.Reads as text_put_refusal
 use Rattle.listing.proofs.report.Reads as listing_report
@@ -78,7 +79,7 @@ contract_of Name.judge::judge = contract judge_judge.Pre judge_judge.Post
 contract_of Name.judge::verdict_of = contract judge_verdict_of.Pre judge_verdict_of.Post
 contract_of Name.search::search = contract search_search.Pre search_search.Post
 contract_of Name.arbiter::step = contract arbiter_step.Pre arbiter_step.Post
-contract_of Name.arbiter::step_in_place = contract arbiter.InPlacePre arbiter.InPlacePost
+contract_of Name.arbiter::step_in_place = contract arbiter_step_in_place.Pre arbiter_step_in_place.Post
 contract_of Name.arbiter::step_lending = contract arbiter_step_lending.Pre arbiter_step_lending.Post
 contract_of Name.text::put_refusal = contract text_put_refusal.Pre text_put_refusal.Post
 contract_of Name.listing::report = contract listing_report.Pre listing_report.Post

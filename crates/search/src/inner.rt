@@ -104,8 +104,8 @@ fn needed(verdict: Verdict) -> u8
 
 // What client i + 1 needs at a leaf, judged on the set of idle slots that leads there.
 fn leaf(plan: Plan, g: usize, i: usize, node: usize) -> u8
-    requires le_f { (1 ≤ plan.f) × (plan.f ≤ 64) × (g ≡ idle_of plan) × (g ≤ 8) × (i < 8) }
-    requires g_bound { (2 ^ g ≤ node) × (node < 2 ^ (g + 1)) }
+    requires sizes { (1 ≤ plan.f) × (plan.f ≤ 64) × (g ≡ idle_of plan) × (g ≤ 8) × (i < 8) }
+    requires at_leaf { (2 ^ g ≤ node) × (node < 2 ^ (g + 1)) }
     ensures { (v : List ℕ) → length v ≡ g → node_of (i + 1) v ≡ node → Suits plan i v result }
 {
     let filling = set_of(i + 1, g, node);
@@ -154,8 +154,8 @@ fn plant(plan: Plan, g: usize) -> [u8; 4096]
 
 // The best filling of the plan's idle slots: of the accepted ones the one that gives the fewest, then the least table.
 pub fn mend(plan: Plan) -> Mended
-    requires le_f { (1 ≤ plan.f) × (plan.f ≤ 64) × (plan.n ≤ 8) × (idle_of plan ≤ 8) }
-    requires by_index { (x : ℕ) → x < plan.f → owner_of plan x ≤ plan.n }
+    requires sizes { (1 ≤ plan.f) × (plan.f ≤ 64) × (plan.n ≤ 8) × (idle_of plan ≤ 8) }
+    requires owners { (x : ℕ) → x < plan.f → owner_of plan x ≤ plan.n }
     ensures { Finds (Mends plan) plan.f plan.n result.found result.owners }
 {
     let g = slots(plan, 0);

@@ -246,9 +246,9 @@ fn clients_in(s: &[u8], at: usize, n: usize) -> [Client; 8]
 
 // The first k owners of row j, put past those of the rows before it; the rows begin at a place.
 fn put_owners(owners: &mut [u8; 64], s: &[u8], at: usize, j: usize, k: usize)
-    requires at_bound { (at ≤ 4096) × (k ≤ 8) × (8 * j + k ≤ 64) × (place s.now at j ≡ at + whole_of row_kind * j) }
-    requires by_index { (t : ℕ) → t < k → place s.now at j + (1 + t) < length s.now }
-    requires owners_value { owners.old ≡ padded (owner_in s.now at) (8 * j) 64 0 }
+    requires sizes { (at ≤ 4096) × (k ≤ 8) × (8 * j + k ≤ 64) × (place s.now at j ≡ at + whole_of row_kind * j) }
+    requires room { (t : ℕ) → t < k → place s.now at j + (1 + t) < length s.now }
+    requires before { owners.old ≡ padded (owner_in s.now at) (8 * j) 64 0 }
     ensures { owners.new ≡ padded (owner_in s.now at) (8 * j + k) 64 0 }
 {
     let row = at + kind::rows_length(j);

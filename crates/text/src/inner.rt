@@ -42,7 +42,7 @@ fn put_digits(out: &mut [u8], at: usize, x: usize) -> usize
 pub fn put_decimal(out: &mut [u8], at: usize, x: usize) -> usize
     requires { at + 20 ≤ length out.old }
     ensures put { Put out.old at (decimal_of x) out.new result }
-    ensures upper_bound { result ≤ at + 20 }
+    ensures most { result ≤ at + 20 }
 {
     put_digits(out, at, x)
 }

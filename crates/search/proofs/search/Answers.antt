@@ -21,8 +21,8 @@ mend-mended-requires c =
     let bounds = ok.bounds in
     let idle = idle_slots args.f args.n args.clients in
     record {
-      le_f = (bounds.f_low, bounds.f_high, bounds.n_high, omega (arith, idle, ok.short));
-      by_index = idle_owners args.f args.n args.clients;
+      sizes = (bounds.f_low, bounds.f_high, bounds.n_high, omega (arith, idle, ok.short));
+      owners = idle_owners args.f args.n args.clients;
     }
 
 pub returns-then-found : goal.returns-then-found

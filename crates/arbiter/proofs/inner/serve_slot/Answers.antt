@@ -21,8 +21,8 @@ arrive-requires c =
     let places : length args.turned.now ≡ 8 = search rules in
     let n≤ = ok.checked.bounds.n_high in
     record {
-      arrivals_len = ok.many;
-      n_in_bounds = (omega (arith, n≤, eight), omega (arith, n≤, places));
+      one_each = ok.many;
+      places = (omega (arith, n≤, eight), omega (arith, n≤, places));
     }
 
 pub serve_owner-requires : goal.serve_owner-requires

@@ -23,7 +23,7 @@ least_wait-requires c =
     let small = figure_small args.plan args.client _ is in
     let k = range_fine args.waiting most_waiting refusal.waiting (sym range.ensures ∙ c.in_default.is) in
     let bounds = (figure_fine args.plan args.client is.0).checked.bounds in
-    record { f_bound = (bounds.f_high, small.0, small.1); scaled_bound = (small.2, k.1) }
+    record { in_frame = (bounds.f_high, small.0, small.1); small = (small.2, k.1) }
 
 pub returns-in-Refused : goal.returns-in-Refused
 returns-in-Refused c =

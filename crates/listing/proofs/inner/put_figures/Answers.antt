@@ -12,7 +12,7 @@ returns-in-Given c =
     let slots = then c.put_decimal-at.ensures.put c.put-at.ensures in
     record {
       put = rw figures (then slots c.put_decimal.ensures.put);
-      upper_bound = search rules;
+      most = search rules;
     }
 
 pub returns-in-Refused : goal.returns-in-Refused
@@ -21,5 +21,5 @@ returns-in-Refused c =
     let figures = c.in-Refused.is in
     record {
       put = rw figures c.put.ensures;
-      upper_bound = search rules;
+      most = search rules;
     }

@@ -12,6 +12,6 @@ returns c =
     let client = then c.put_decimal-at.ensures.put c.put-at.ensures in
     record {
       put = then (then client c.put_wait-at.ensures.put) c.put.ensures;
-      upper_bound = search rules;
+      most = search rules;
       lendable = lendable _ _ (search rules);
     }

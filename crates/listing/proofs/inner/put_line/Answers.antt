@@ -13,5 +13,5 @@ returns c =
     let wait = then (then figures c.put_wait-at.ensures.put) c.put-at-3.ensures in
     record {
       put = then (then wait c.put_verdict-at.ensures.put) c.put.ensures;
-      upper_bound = search rules;
+      most = search rules;
     }

@@ -22,18 +22,18 @@ loop-i-init c =
 
 pub first_failure-judged-requires : goal.first_failure-judged-requires
 first_failure-judged-requires c =
-    let bounds = (plan_fine c.args.plan c.requires.plan_value).bounds in
+    let bounds = (plan_fine c.args.plan c.requires.checked).bounds in
     (bounds.f_low, bounds.f_high, omega (arith, bounds.n_high))
 
 pub line_of-line-requires : goal.line_of-line-requires
 line_of-line-requires c =
     let judged = c.first_failure-judged in
-    judged_verdict c.args.plan c.loop-i.i judged.result c.requires.plan_value (omega arith)
+    judged_verdict c.args.plan c.loop-i.i judged.result c.requires.checked (omega arith)
     judged.ensures
 
 pub put_line-next-requires : goal.put_line-next-requires
 put_line-next-requires c =
-    omega (arith, (plan_fine c.args.plan c.requires.plan_value).bounds.n_high)
+    omega (arith, (plan_fine c.args.plan c.requires.checked).bounds.n_high)
 
 pub loop-i-preserved : goal.loop-i-preserved
 loop-i-preserved c =
@@ -52,9 +52,9 @@ pub returns : goal.returns
 returns c =
     let loop = c.loop-i in
     let e : loop.i ≡ c.args.plan.n = omega arith in
-    let bounds = (plan_fine c.args.plan c.requires.plan_value).bounds in
+    let bounds = (plan_fine c.args.plan c.requires.checked).bounds in
     record {
       puts = rw e at loop.invariant.2;
-      next_bound = omega (arith, bounds.n_high);
+      most = omega (arith, bounds.n_high);
       judgement = rw e at loop.invariant.3;
     }

@@ -10,7 +10,7 @@ returns-in-Ok c =
     let verdict = c.in-Ok.is in
     record {
       put = rw verdict c.put.ensures;
-      upper_bound = search rules;
+      most = search rules;
     }
 
 pub returns-in-Rate : goal.returns-in-Rate
@@ -19,7 +19,7 @@ returns-in-Rate c =
     let verdict = c.in-Rate.is in
     record {
       put = rw verdict c.put-in-Rate.ensures;
-      upper_bound = search rules;
+      most = search rules;
     }
 
 pub returns-in-Late : goal.returns-in-Late
@@ -28,5 +28,5 @@ returns-in-Late c =
     let verdict = c.in-Late.is in
     record {
       put = rw verdict c.put-in-Late.ensures;
-      upper_bound = search rules;
+      most = search rules;
     }

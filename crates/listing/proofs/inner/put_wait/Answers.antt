@@ -10,7 +10,7 @@ returns-in-Given c =
     let wait = c.in-Given.is in
     record {
       put = rw wait c.put_decimal.ensures.put;
-      upper_bound = search rules;
+      most = search rules;
     }
 
 pub returns-in-Refused : goal.returns-in-Refused
@@ -19,5 +19,5 @@ returns-in-Refused c =
     let wait = c.in-Refused.is in
     record {
       put = rw wait c.put.ensures;
-      upper_bound = search rules;
+      most = search rules;
     }

@@ -24,7 +24,7 @@ returns-then-found c =
     let long : length plan.owners ≡ 64 = search rules in
     let g = slots.result in
     rw c.fill-table.ensures
-    (mended plan g plant.result (omega arith) slots.ensures (omega arith) c.requires.by_index plant.ensures
+    (mended plan g plant.result (omega arith) slots.ensures (omega arith) c.requires.owners plant.ensures
     best.result.found best.result.owners c.if-found.true best.ensures)
 
 pub returns : goal.returns
@@ -35,5 +35,5 @@ returns c =
     let plan = c.args.plan in
     let long : length plan.owners ≡ 64 = search rules in
     let g = slots.result in
-    not_mended plan g plant.result (omega arith) slots.ensures (omega arith) c.requires.by_index plant.ensures
+    not_mended plan g plant.result (omega arith) slots.ensures (omega arith) c.requires.owners plant.ensures
     best.result.found best.result.owners c.if-found.false best.ensures

@@ -36,8 +36,8 @@ leaf-requires c =
     let leaves = leaves_shifted args.g (omega arith) in
     let start = c.requires in
     record {
-      le_f = (start.0, start.1, start.2, start.3, start.4);
-      g_bound = (omega (arith, leaves), omega (arith, leaves, leaves_doubled args.g));
+      sizes = (start.0, start.1, start.2, start.3, start.4);
+      at_leaf = (omega (arith, leaves), omega (arith, leaves, leaves_doubled args.g));
     }
 
 pub returns-then-x-leaves-2 : goal.returns-then-x-leaves-2

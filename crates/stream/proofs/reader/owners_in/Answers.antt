@@ -30,7 +30,7 @@ put_owners-requires c =
     let s = a.s.now in
     let there = place_rows s a.f a.n a.at (rows_of a.f) pre.2 l.j (omega arith) in
     let room = row_room s a.f a.n a.at l.j 8 pre.2 (omega arith) (omega arith) in
-    record { at_bound = (omega arith, omega arith, omega arith, there); by_index = room; owners_value = l.invariant.1 }
+    record { sizes = (omega arith, omega arith, omega arith, there); room = room; before = l.invariant.1 }
 
 pub loop-j-preserved : goal.loop-j-preserved
 loop-j-preserved c =
@@ -48,9 +48,9 @@ put_owners-requires-2 c =
     let there = place_rows s f a.n a.at (rows_of f) pre.2 (f / 8) (omega arith) in
     let room = row_room s f a.n a.at (f / 8) (f % 8) pre.2 (omega arith) (omega arith) in
     record {
-      at_bound = (omega arith, omega arith, omega arith, there);
-      by_index = room;
-      owners_value = rw e at l.invariant.1;
+      sizes = (omega arith, omega arith, omega arith, there);
+      room = room;
+      before = rw e at l.invariant.1;
     }
 
 pub returns : goal.returns

@@ -11,14 +11,14 @@ use Rattle.stream.proofs.reader.put_owners.Goals as goal
 pub loop-t-init : goal.loop-t-init
 loop-t-init c =
     let a = c.args in
-    let e : 8 * a.j + 0 ≡ 8 * a.j = omega arith in (omega arith, rw e c.requires.owners_value)
+    let e : 8 * a.j + 0 ≡ 8 * a.j = omega arith in (omega arith, rw e c.requires.before)
 
 pub bounds-s-row : goal.bounds-s-row
 bounds-s-row c =
     let pre = c.requires in
     let rows_length = c.rows_length in
     let l = c.loop-t in
-    omega (arith, pre.at_bound, pre.by_index l.t (omega arith), rows_length.ensures)
+    omega (arith, pre.sizes, pre.room l.t (omega arith), rows_length.ensures)
 
 pub loop-t-preserved : goal.loop-t-preserved
 unfolding owner_in
@@ -31,7 +31,7 @@ loop-t-preserved c =
     let d : x / 8 ≡ a.j = omega arith in
     let r : x % 8 ≡ l.t = omega arith in
     let e : 8 * a.j + (l.t + 1) ≡ x + 1 = omega arith in
-    let more = rw (d, r, pre.at_bound.3) at (padded_more (owner_in a.s.now a.at) x 64 0 (omega arith)) in
+    let more = rw (d, r, pre.sizes.3) at (padded_more (owner_in a.s.now a.at) x 64 0 (omega arith)) in
     (omega arith, rw (l.invariant.1, rows_length.ensures, e) more)
 
 pub returns : goal.returns

@@ -13,5 +13,5 @@ returns c =
     let put = c.put_digits.ensures in
     record {
       put = put;
-      upper_bound = omega (arith, put.place, twenty_most c.args.x c.ranges.x.fits);
+      most = omega (arith, put.place, twenty_most c.args.x c.ranges.x.fits);
     }
