@@ -1,20 +1,23 @@
 // What a program reads from a reader that may give less than it is asked for.
 #![tactic(auto)]
 
-ghost use Rattle.std.specs.Prelude.{◌≤◌, length, IfOk};
+ghost use Rattle.std.specs.Prelude.{◌<◌, ◌≤◌, length, take, IfOk};
+ghost use Rattle.std.specs.Io.KnownBytes.{Consumes, IsAtEnd};
 
 use std::io;
 use std::io::Read;
 
-// Reads until the bytes are full or the input ends; how many were read stands at their front.
+// Reads until the bytes are full or the input ends; what was read stands at their front, and its length is returned.
 pub fn read_full<R: Read>(from: &mut R, bytes: &mut [u8]) -> io::Result<usize>
-    ensures { IfOk result (λ n. n ≤ length bytes.new) }
+    ensures room { IfOk result (λ n. n ≤ length bytes.new) }
+    ensures front { IfOk result (λ n. Consumes (R.remaining from.old) (R.remaining from.new) (take n bytes.new)) }
+    ensures whole { IfOk result (λ n. n < length bytes.new → IsAtEnd (R.remaining from.new)) }
 {
     let mut done = 0;
     while done < bytes.len() {
         let size = from.read(&mut bytes[done..])?;
         if size == 0 {
-            break;
+            return Ok(done);
         }
         done += size;
     }
