@@ -13,7 +13,7 @@ use Rattle.frame.specs.Frame.{Frame, IsScaled}
 use Rattle.frame.specs.Queue.{most_pending, most_arriving, Arrivals, taken, served}
 use Rattle.frame.specs.Service.{Busy, Satisfies, SatisfiesEmpty}
 use Rattle.frame.proofs.Latency.{latency_least_empty, in_time_exactly}
-use Rattle.records.specs.declared.Outcome.TheVariants.{Fine}
+use Rattle.records.specs.First.{Fine}
 use Rattle.plan.specs.declared.Plan.{Plan}
 use Rattle.plan.specs.Plan.{own_of}
 use Rattle.plan.specs.Check.{plan_check}
@@ -23,8 +23,8 @@ use Rattle.arbiter.specs.Step.{rule_of, count_of, arrived_of}
 use Rattle.arbiter.specs.Run.{Runs, served_of, taken_of, Typed, slots_in, BusyOf, SatisfiesOf, SatisfiesEmptyOf}
 use Rattle.arbiter.specs.Run.{IsLatencyOf}
 use Rattle.arbiter.proofs.Laws.{rule_lawful}
-use Rattle.arbiter.proofs.Runs.{mine, mine_first, mine_length, mine_at, runs_first, served_is, taken_is}
-use Rattle.arbiter.proofs.Runs.{served_run, taken_run}
+use Rattle.arbiter.proofs.Runs.{mine, mine_first, mine_length, mine_at, runs_first, served_is, taken_is, served_run}
+use Rattle.arbiter.proofs.Runs.{taken_run}
 
 -- ---- every client is given the same
 

@@ -18,15 +18,15 @@ use Rattle.plan.specs.Plan.{owner_of, is_client, own_of, Same}
 use Rattle.arbiter.specs.declared.Arbiter.{Arbiter}
 use Rattle.arbiter.specs.declared.Stepped.{Stepped}
 use Rattle.arbiter.specs.Step.{rule_for, rule_of, count_of, arrived_of, queue_at, turned_at, joined, served_now}
-use Rattle.arbiter.specs.Step.{advanced, step_of, step_said, client_served}
+use Rattle.arbiter.specs.Step.{advanced, step_of, step_said}
 use Rattle.arbiter.specs.Run.{record_after, total_of, Runs, served_of, taken_of, turned_of, pending_of, served_in_of}
 use Rattle.arbiter.specs.Run.{Agree}
 use Rattle.arbiter.specs.Entries.{step_numbers}
 use Rattle.arbiter.proofs.Questions.{Steps, step_fine}
 use Rattle.arbiter.proofs.Refusals.{step_gives}
 use Rattle.arbiter.proofs.Slots.{served_at_most, less_other, either, step_number}
-use Rattle.arbiter.proofs.Runs.{place_itself, mine, mine_length, step_served, step_left, step_turned}
-use Rattle.arbiter.proofs.Runs.{pending_run, served_in_run, steps_at, runs_on}
+use Rattle.arbiter.proofs.Runs.{place_itself, mine, mine_length, step_served, step_left, step_turned, pending_run}
+use Rattle.arbiter.proofs.Runs.{served_in_run, steps_at, runs_on}
 
 -- ---- the rule in force
 
@@ -60,7 +60,7 @@ module _ (plan : Plan) (arb : Arbiter) (xs : List ℕ) (ok : Steps plan arb.posi
   module _ (i : ℕ) (i< : i < plan.n) where
     -- left and served make up what was pending and what is taken
     pub step_balance : count_of (step_of plan arb xs).next i
-        + is_client (i + 1) (client_served (step_of plan arb xs).served.answer)
+        + is_client (i + 1) (step_of plan arb xs).served.client
         ≡ count_of arb i + (rule_of plan i).takes (count_of arb i) (arrived_of xs i)
     step_balance =
         let s = arb.position in
@@ -86,7 +86,7 @@ module _ (plan : Plan) (arb : Arbiter) (xs : List ℕ) (ok : Steps plan arb.posi
 pub step_kept : (plan : Plan) (arb : Arbiter) (xs : List ℕ) (i : ℕ) → plan.n ≤ i
     → count_of (step_of plan arb xs).next i ≡ count_of arb i
 step_kept plan arb xs i n≤ =
-    either (λ (r : Stepped). count_of r.next i ≡ count_of arb i) plan arb xs (λ number. refl)
+    either (λ (r : Stepped). count_of r.next i ≡ count_of arb i) plan arb xs refl
     (λ fine. advanced_kept plan arb xs (step_fine plan _ _ fine) i n≤)
 
 -- "each client's turned-away count, 0 past n"
@@ -94,12 +94,12 @@ pub step_none : (plan : Plan) (arb : Arbiter) (xs : List ℕ) (i : ℕ) → plan
     → get_or (step_of plan arb xs).served.turned i 0 ≡ 0
 unfolding advanced
 step_none plan arb xs i n≤ =
-    either (λ (r : Stepped). get_or r.served.turned i 0 ≡ 0) plan arb xs (λ number. get_replicate 8 0 i)
+    either (λ (r : Stepped). get_or r.served.turned i 0 ≡ 0) plan arb xs (get_replicate 8 0 i)
     (λ fine. padded_past (turned_at plan arb xs) plan.n 8 0 i n≤)
 
 -- a step that is not refused has the bounds
 pub step_bounds : (plan : Plan) (arb : Arbiter) (xs : List ℕ)
-    → said_number (step_said (step_of plan arb xs).served.answer) ≡ 0 → Steps plan arb.position (length xs)
+    → said_number (step_said plan arb xs) ≡ 0 → Steps plan arb.position (length xs)
 step_bounds plan arb xs none =
     let gives = step_gives plan arb.position (length xs) in
     step_fine plan _ _ (gives_fine step_numbers refl _ gives (sym (step_number plan arb xs) ∙ none))

@@ -7,8 +7,8 @@ use native.Mathlib.Nat.{mod-lt}
 use native.Mathlib.Omega.{arith}
 use borrow.Author.Tests.{ltb-true, eqb-true, lt-ltb, eq-eqb}
 use Rattle.frame.specs.Frame.{next_of}
-use Rattle.records.specs.Refusal as refusal
-use Rattle.records.specs.declared.Outcome.TheVariants.{Fine}
+use Rattle.records.specs.declared.refusal.Refusal.TheVariants as refusal
+use Rattle.records.specs.First.{Fine}
 use Rattle.records.proofs.Checks.{both_fine, unless_fine}
 use Rattle.plan.specs.declared.Plan.{Plan}
 use Rattle.plan.specs.Plan.{owner_of}
@@ -29,8 +29,8 @@ step_fine plan position arrived h =
     let b = both_fine _ _ a.1 in
     record {
       checked = plan_fine plan a.0;
-      below = ltb-true position plan.f (unless_fine _ refusal.position 0 b.0);
-      many = eqb-true arrived plan.n (unless_fine _ refusal.arrivals 0 b.1);
+      below = ltb-true position plan.f (unless_fine _ refusal.Position 0 b.0);
+      many = eqb-true arrived plan.n (unless_fine _ refusal.Arrivals 0 b.1);
     }
 
 pub step_pass : (plan : Plan) (position arrived : ℕ) → Steps plan position arrived
@@ -51,3 +51,6 @@ next_passes plan position arrived h =
 pub owner_small : (plan : Plan) (position arrived : ℕ) → Steps plan position arrived → owner_of plan position ≤ 8
 owner_small plan position arrived ok =
     omega (arith, ok.checked.owned position ok.below, ok.checked.bounds.n_high)
+
+-- what a step that passes has, and with it the bounds that its parts ask for
+pub ruleset bounds = (step_fine, owner_small)

@@ -4,9 +4,8 @@ use mathlib.Core.Path.{refl}
 use mathlib.Core.List.{List, [], ◌∷◌}
 use Prim.Native.Nat.{ℕ}
 use lib.Dec.{ltb, eqb}
-use Rattle.records.specs.Refusal as refusal
-use Rattle.records.specs.First.{or_else, Gives}
-use Rattle.records.specs.declared.Outcome.{Outcome}
+use Rattle.records.specs.declared.refusal.Refusal.TheVariants as refusal
+use Rattle.records.specs.First.{or_else, Gives, Outcome}
 use Rattle.records.proofs.Refusals.{or_each, unless_gives, or_gives}
 use Rattle.plan.specs.declared.Plan.{Plan}
 use Rattle.plan.specs.Check.{plan_check}
@@ -22,5 +21,5 @@ step_gives plan position arrived =
     let below : Outcome = position_check plan.f position in
     let many : Outcome = arrivals_check plan.n arrived in
     or_gives plan_numbers ks (plan_check plan) (or_else below many) (plan_gives plan)
-    (or_each (Gives ks) below many (unless_gives ks (ltb position plan.f) refusal.position 0 refl)
-    (unless_gives ks (eqb arrived plan.n) refusal.arrivals 0 refl))
+    (or_each (Gives ks) below many (unless_gives ks (ltb position plan.f) refusal.Position 0 refl)
+    (unless_gives ks (eqb arrived plan.n) refusal.Arrivals 0 refl))

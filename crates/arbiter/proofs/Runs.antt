@@ -14,16 +14,14 @@ use Rattle.frame.specs.Frame.{next_of}
 use Rattle.frame.specs.Queue.{serve, after, left, total, taken, turned, served, pending, served_in}
 use Rattle.frame.proofs.Within.{next_mod}
 use Rattle.records.proofs.Lists.{get_onto, onto_reaches, get_padded}
-use Rattle.records.specs.declared.Outcome.TheVariants.{Fine}
+use Rattle.records.specs.First.{Fine}
 use Rattle.plan.specs.declared.Plan.{Plan}
 use Rattle.plan.specs.Plan.{owner_of, is_client, own_in, own_of}
 use Rattle.plan.proofs.Laws.{plan_fine}
 use Rattle.arbiter.specs.declared.Arbiter.{Arbiter}
 use Rattle.arbiter.specs.Step.{rule_of, count_of, arrived_of, queue_at, turned_at, joined, served_now, advanced}
-use Rattle.arbiter.specs.Step.{step_of}
-use Rattle.arbiter.specs.Step.{client_served, step_check}
-use Rattle.arbiter.specs.Run.{record_after, total_of, Runs, served_of, turned_of, taken_of, pending_of}
-use Rattle.arbiter.specs.Run.{served_in_of}
+use Rattle.arbiter.specs.Step.{step_of, step_check}
+use Rattle.arbiter.specs.Run.{record_after, total_of, Runs, served_of, turned_of, taken_of, pending_of, served_in_of}
 use Rattle.arbiter.proofs.Questions.{Steps, step_pass, next_passes}
 use Rattle.arbiter.proofs.Slots.{serves_is, less_is, step_advances}
 
@@ -68,7 +66,7 @@ module _ (plan : Plan) (arb : Arbiter) (xs : List ℕ) (ok : Steps plan arb.posi
       unfolding own_in
       own_here = rw at
 
-      pub step_served : is_client (i + 1) (client_served (step_of plan arb xs).served.answer)
+      pub step_served : is_client (i + 1) (step_of plan arb xs).served.client
           ≡ serve (own_of plan (i + 1) s) (queue_at plan arb xs i)
       unfolding advanced
       step_served = rw (advances_so, ← own_here) served_here

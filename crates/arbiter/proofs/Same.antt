@@ -6,15 +6,15 @@ use Prim.Native.Nat.{ℕ, zero, suc, ◌+◌, ◌<◌}
 use native.Mathlib.Omega.{arith}
 use lib.ListN.{length, get_or}
 use Rattle.frame.specs.Queue.{Rule, queue, after}
-use Rattle.records.specs.declared.Outcome.{Outcome}
-use Rattle.records.specs.declared.Outcome.TheVariants.{Fine, Refused}
+use Rattle.std.specs.Prelude.{Ok, Err}
+use Rattle.records.specs.First.{Outcome, Fine}
 use Rattle.records.proofs.Lists.{get_onto, onto_same, padded_same}
 use Rattle.plan.specs.declared.Plan.{Plan}
 use Rattle.plan.specs.Plan.{owner_of, own_of, Same}
 use Rattle.plan.proofs.Laws.{same_check}
 use Rattle.arbiter.specs.declared.Arbiter.{Arbiter}
 use Rattle.arbiter.specs.Step.{rule_of, count_of, arrived_of, served_by, queue_at, turned_at, joined, served_now}
-use Rattle.arbiter.specs.Step.{advanced, position_check, arrivals_check, step_check, step_of}
+use Rattle.arbiter.specs.Step.{advanced, position_check, arrivals_check, step_check, step_of, step_said}
 use Rattle.arbiter.proofs.Questions.{Steps, step_fine}
 use Rattle.arbiter.proofs.Slots.{step_refused, step_advances}
 use Rattle.arbiter.proofs.Runs.{place_itself, step_left}
@@ -41,11 +41,15 @@ module _ (plan other : Plan) (same : Same plan other) (arb : Arbiter) (xs : List
   same_step = by (step_check plan arb.position (length xs)) refl
     where
       by : (o : Outcome) → step_check plan arb.position (length xs) ≡ o → step_of plan arb xs ≡ step_of other arb xs
-      by Fine e =
+      by (Ok u) e =
           step_advances plan arb xs e ∙ advanced_same (step_fine plan _ _ e)
           ∙ sym (step_advances other arb xs (sym step_check_same ∙ e))
-      by (Refused k offset) e =
+      by (Err refused) e =
           step_refused plan arb xs e ∙ sym (step_refused other arb xs (sym step_check_same ∙ e))
+
+  pub same_said : step_said plan arb xs ≡ step_said other arb xs
+  unfolding step_said
+  same_said = rw (same_step, step_check_same)
 
 -- ---- "Counts past n are not read"
 
@@ -87,11 +91,11 @@ module _ (plan : Plan) (arb other : Arbiter) (xs : List ℕ) (place : arb.positi
 
       by : (o : Outcome) → step_check plan arb.position (length xs) ≡ o
           → (step_of plan arb xs).served ≡ (step_of plan other xs).served
-      by Fine e =
+      by (Ok u) e =
           rw (step_advances plan arb xs e, step_advances plan other xs (at_other Fine e))
           (advanced_unread (step_fine plan _ _ e))
-      by (Refused k offset) e =
-          rw (step_refused plan arb xs e, step_refused plan other xs (at_other (Refused k offset) e))
+      by (Err refused) e =
+          rw (step_refused plan arb xs e, step_refused plan other xs (at_other (Err refused) e))
 
   count_goes : Steps plan arb.position (length xs) → (i : ℕ) → i < plan.n
       → count_of (step_of plan arb xs).next i ≡ count_of (step_of plan other xs).next i
@@ -108,7 +112,7 @@ module _ (plan : Plan) (arb other : Arbiter) (xs : List ℕ) (place : arb.positi
     where
       by : (o : Outcome) → step_check plan arb.position (length xs) ≡ o
           → count_of (step_of plan arb xs).next i ≡ count_of (step_of plan other xs).next i
-      by Fine e = count_goes (step_fine plan _ _ e) i l
-      by (Refused k offset) e =
-          let e' : step_check plan other.position (length xs) ≡ Refused k offset = rw place at e in
+      by (Ok u) e = count_goes (step_fine plan _ _ e) i l
+      by (Err refused) e =
+          let e' : step_check plan other.position (length xs) ≡ Err refused = rw place at e in
           rw (step_refused plan arb xs e, step_refused plan other xs e') (counts i l)

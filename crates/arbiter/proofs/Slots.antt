@@ -8,24 +8,22 @@ use Prim.Native.Nat.{ℕ, zero, suc, ◌+◌, ◌-◌, ◌≤◌, ◌<◌}
 use native.Mathlib.Decide.{ℕ_discrete, dec_lt}
 use native.Mathlib.Omega.{arith}
 use lib.Dec.{ltb}
-use lib.ListN.{length, get_or, set, replicate}
+use lib.ListN.{length, get_or, set}
 use lib.Seq.{get_or-set_same, get_or-set_other}
 use borrow.Author.Tests.{lt-ltb, le-ltb}
-use Rattle.frame.specs.Frame.{next_of}
 use Rattle.frame.specs.Queue.{serve}
-use Rattle.records.specs.First.{pick, number_of}
-use Rattle.records.specs.Said.{said_number}
-use Rattle.records.specs.declared.Outcome.{Outcome}
-use Rattle.records.specs.declared.Outcome.TheVariants as outcome
-use Rattle.records.specs.Pieces.{onto, padded}
+use Rattle.std.specs.Prelude.{Ok, Err}
+use Rattle.records.specs.declared.refusal.Refusal.{Refusal}
+use Rattle.records.specs.First.{pick, number_of, Outcome, Fine, refuse}
+use Rattle.records.specs.Said.{Said, said_number}
 use Rattle.plan.specs.declared.Plan.{Plan}
 use Rattle.plan.specs.Plan.{owner_of, is_client}
 use Rattle.plan.proofs.Laws.{client_is, client_not}
 use Rattle.arbiter.specs.declared.Arbiter.{Arbiter}
-use Rattle.arbiter.specs.declared.StepAnswer.TheVariants.{Given}
+use Rattle.arbiter.specs.declared.Served.{Served}
 use Rattle.arbiter.specs.declared.Stepped.{Stepped}
-use Rattle.arbiter.specs.Step.{served_by, less_one, turned_at, joined, served_now, advanced, step_check}
-use Rattle.arbiter.specs.Step.{refused_step, stepped_by, step_of, step_said, client_served}
+use Rattle.arbiter.specs.Step.{served_by, less_one, joined, advanced, step_check, refused_step, stepped_by, step_of}
+use Rattle.arbiter.specs.Step.{said_by, step_said, served_said}
 
 -- ---- the client served
 
@@ -85,6 +83,9 @@ pub less_some : (served : ℕ) (counts : List ℕ) → 1 ≤ served
     → set counts (served - 1) (get_or counts (served - 1) 0 - 1) ≡ less_one served counts
 less_some served counts l = sym (less_at served (served - 1) counts (omega arith))
 
+-- what decides a slot's service, case by case
+pub ruleset service = (served_idle, served_owner, served_nobody, less_none, less_some)
+
 -- ---- what client i + 1 sees of both
 
 -- it is served where the slot is its own and it has a request pending
@@ -125,56 +126,86 @@ less_is served i counts l = by (ℕ_discrete served (i + 1))
 
 -- ---- the whole step
 
--- the slot's work, and the position after it
-pub advances : (plan : Plan) (arb : Arbiter) (xs left turned : List ℕ) (served next : ℕ)
-    → served ≡ served_now plan arb xs → left ≡ less_one served (joined plan arb xs)
-    → turned ≡ onto (turned_at plan arb xs) plan.n (replicate 8 0) → next ≡ next_of plan.f arb.position
-    → record {
-      served = record { answer = Given served; turned = turned };
-      next = record { position = next; pending = left };
-    } ≡ advanced plan arb xs
-unfolding advanced padded
-advances plan arb xs left turned served next s l t p = rw (l, s, t, p)
-
-pub step_refused : (plan : Plan) (arb : Arbiter) (xs : List ℕ) {number offset : ℕ}
-    → step_check plan arb.position (length xs) ≡ outcome.Refused number offset
-    → step_of plan arb xs ≡ refused_step number arb
+pub step_refused : (plan : Plan) (arb : Arbiter) (xs : List ℕ) {why : Refusal} {offset : ℕ}
+    → step_check plan arb.position (length xs) ≡ refuse why offset → step_of plan arb xs ≡ refused_step arb
 unfolding step_of
 step_refused plan arb xs h = rw h
 
 pub step_advances : (plan : Plan) (arb : Arbiter) (xs : List ℕ)
-    → step_check plan arb.position (length xs) ≡ outcome.Fine → step_of plan arb xs ≡ advanced plan arb xs
+    → step_check plan arb.position (length xs) ≡ Fine → step_of plan arb xs ≡ advanced plan arb xs
 unfolding step_of
 step_advances plan arb xs h = rw h
 
-number_by : (o : Outcome) (goes : Stepped) (arb : Arbiter) → said_number (step_said goes.served.answer) ≡ 0
-    → said_number (step_said (stepped_by o goes arb).served.answer) ≡ number_of o
-number_by outcome.Fine goes arb h = h
-number_by (outcome.Refused number offset) goes arb h = refl
+pub said_refused : (plan : Plan) (arb : Arbiter) (xs : List ℕ) {why : Refusal} {offset : ℕ}
+    → step_check plan arb.position (length xs) ≡ refuse why offset → step_said plan arb xs ≡ Err why
+unfolding step_said
+said_refused plan arb xs h = rw h
+
+-- a step that is said is the one that is given
+pub said_given : (plan : Plan) (arb : Arbiter) (xs : List ℕ) {stepped : Stepped} → step_said plan arb xs ≡ Ok stepped
+    → step_of plan arb xs ≡ stepped
+unfolding step_said step_of
+said_given plan arb xs = by (step_check plan arb.position (length xs)) (advanced plan arb xs)
+  where
+    by : (o : Outcome) (goes : Stepped) {stepped : Stepped} → said_by o (stepped_by o goes arb) ≡ Ok stepped
+        → stepped_by o goes arb ≡ stepped
+    by (Ok u) goes h = cc
+    by (Err refused) goes h = cc
+
+-- and one that is refused leaves the record
+pub said_stopped : (plan : Plan) (arb : Arbiter) (xs : List ℕ) {why : Refusal} → step_said plan arb xs ≡ Err why
+    → step_of plan arb xs ≡ refused_step arb
+unfolding step_said step_of
+said_stopped plan arb xs = by (step_check plan arb.position (length xs)) (advanced plan arb xs)
+  where
+    by : (o : Outcome) (goes : Stepped) {why : Refusal} → said_by o (stepped_by o goes arb) ≡ Err why
+        → stepped_by o goes arb ≡ refused_step arb
+    by (Ok u) goes h = cc
+    by (Err refused) goes h = refl
+
+-- whom it serves and the record that it leaves are the whole step
+pub said_parts : (plan : Plan) (arb next : Arbiter) (xs : List ℕ) {served : Served}
+    → served_said (step_said plan arb xs) ≡ Ok served → next ≡ (step_of plan arb xs).next
+    → Ok (record { served = served; next = next }) ≡ step_said plan arb xs
+unfolding step_said
+said_parts plan arb next xs {served} = by (step_check plan arb.position (length xs)) (step_of plan arb xs)
+  where
+    by : (o : Outcome) (goes : Stepped) → served_said (said_by o goes) ≡ Ok served → next ≡ goes.next
+        → Ok (record { served = served; next = next }) ≡ said_by o goes
+    by (Ok u) goes h e = let same : goes.served ≡ served = cc in rw (e, ← same)
+    by (Err refused) goes h e = cc
+
+number_by : (o : Outcome) (goes : Stepped) → said_number (said_by o goes) ≡ number_of o
+number_by (Ok u) goes = refl
+number_by (Err refused) goes = refl
 
 -- its number is the first refusal's
 pub step_number : (plan : Plan) (arb : Arbiter) (xs : List ℕ)
-    → said_number (step_said (step_of plan arb xs).served.answer) ≡ number_of (step_check plan arb.position (length xs))
-unfolding step_of advanced
-step_number plan arb xs = number_by (step_check plan arb.position (length xs)) (advanced plan arb xs) arb refl
+    → said_number (step_said plan arb xs) ≡ number_of (step_check plan arb.position (length xs))
+unfolding step_said
+step_number plan arb xs = number_by (step_check plan arb.position (length xs)) (step_of plan arb xs)
+
+pub served_number : (s : Said Stepped) → said_number (served_said s) ≡ said_number s
+served_number (Ok stepped) = refl
+served_number (Err why) = refl
 
 -- what holds of a step that is refused and of one that is not
 pub either : (P : Stepped → Type 0) (plan : Plan) (arb : Arbiter) (xs : List ℕ)
-    → ((number : ℕ) → P (refused_step number arb))
-    → (step_check plan arb.position (length xs) ≡ outcome.Fine → P (advanced plan arb xs)) → P (step_of plan arb xs)
+    → P (refused_step arb) → (step_check plan arb.position (length xs) ≡ Fine → P (advanced plan arb xs))
+    → P (step_of plan arb xs)
 unfolding step_of
 either P plan arb xs refused goes = by (step_check plan arb.position (length xs)) refl
   where
     by : (o : Outcome) → step_check plan arb.position (length xs) ≡ o → P (stepped_by o (advanced plan arb xs) arb)
-    by outcome.Fine e = goes e
-    by (outcome.Refused number offset) e = refused number
+    by (Ok u) e = goes e
+    by (Err why) e = refused
 
 -- it names nobody but the slot's owner
 pub step_named : (plan : Plan) (arb : Arbiter) (xs : List ℕ)
-    → (client_served (step_of plan arb xs).served.answer ≡ 0)
-    ⊎ (client_served (step_of plan arb xs).served.answer ≡ owner_of plan arb.position)
+    → ((step_of plan arb xs).served.client ≡ 0)
+    ⊎ ((step_of plan arb xs).served.client ≡ owner_of plan arb.position)
 unfolding advanced
 step_named plan arb xs =
-    either (λ (r : Stepped). (client_served r.served.answer ≡ 0)
-    ⊎ (client_served r.served.answer ≡ owner_of plan arb.position)) plan arb xs (λ number. inl refl)
+    either (λ (r : Stepped). (r.served.client ≡ 0)
+    ⊎ (r.served.client ≡ owner_of plan arb.position)) plan arb xs (inl refl)
     (λ fine. served_either (owner_of plan arb.position) (joined plan arb xs))

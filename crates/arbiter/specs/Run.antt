@@ -5,12 +5,12 @@ use Rattle.std.specs.Prelude.{◌≡◌, List, [], ◌∷◌, ℕ, ◌+◌, ◌*
 use Rattle.frame.specs.Frame.{slots_of}
 use Rattle.frame.specs.Queue.{most_pending, most_arriving}
 use Rattle.frame.specs.Service.{Guaranteed}
-use Rattle.records.specs.declared.Outcome.TheVariants.{Fine}
+use Rattle.records.specs.First.{Fine}
 use Rattle.plan.specs.declared.Plan.{Plan}
 use Rattle.plan.specs.Plan.{is_client, own_of}
 use Rattle.plan.specs.Check.{plan_check}
 use Rattle.arbiter.specs.declared.Arbiter.{Arbiter}
-use Rattle.arbiter.specs.Step.{rule_of, count_of, arrived_of, queue_at, step_of, client_served}
+use Rattle.arbiter.specs.Step.{rule_of, count_of, arrived_of, queue_at, step_of}
 
 -- ---- runs
 
@@ -36,7 +36,7 @@ module _ (plan : Plan) where
 module _ (plan : Plan) (i : ℕ) where
   -- how often it is served: in the steps that name it
   abbrev pub served_of : Arbiter → List (List ℕ) → ℕ
-  served_of = total_of plan (λ arb xs. is_client (i + 1) (client_served (step_of plan arb xs).served.answer))
+  served_of = total_of plan (λ arb xs. is_client (i + 1) (step_of plan arb xs).served.client)
 
   -- its requests that are turned away, as the steps count them
   abbrev pub turned_of : Arbiter → List (List ℕ) → ℕ

@@ -1,20 +1,17 @@
--- One step of the arbiter (document 01, The arbiter), and what its answer's cases mean.
-use Rattle.std.specs.Prelude.{List, ℕ, zero, suc, ◌-◌, eqb, ltb, length, get_or, set, replicate}
+-- One step of the arbiter (document 01, The arbiter), and what is said of it.
+use Rattle.std.specs.Prelude.{List, ℕ, zero, suc, ◌-◌, eqb, ltb, length, get_or, set, replicate, Ok, Err}
 use Rattle.frame.specs.Frame.{next_of}
 use Rattle.frame.specs.Queue.{Rule, one_slot, queue}
-use Rattle.records.specs.Refusal as refusal
-use Rattle.records.specs.First.{pick, unless, or_else}
-use Rattle.records.specs.Said.{Said, given, refused, said_or}
+use Rattle.records.specs.declared.refusal.Refusal.TheVariants as refusal
+use Rattle.records.specs.First.{pick, unless, or_else, Outcome}
+use Rattle.records.specs.Said.{Said}
 use Rattle.records.specs.Pieces.{onto, padded}
-use Rattle.records.specs.declared.Outcome.{Outcome}
-use Rattle.records.specs.declared.Outcome.TheVariants as outcome
 use Rattle.plan.specs.declared.Client.{Client}
 use Rattle.plan.specs.declared.Plan.{Plan}
 use Rattle.plan.specs.Plan.{client_of, owner_of}
 use Rattle.plan.specs.Check.{plan_check}
 use Rattle.arbiter.specs.declared.Arbiter.{Arbiter}
-use Rattle.arbiter.specs.declared.StepAnswer.{StepAnswer}
-use Rattle.arbiter.specs.declared.StepAnswer.TheVariants as answer
+use Rattle.arbiter.specs.declared.Served.{Served}
 use Rattle.arbiter.specs.declared.Stepped.{Stepped}
 
 -- ---- one slot
@@ -67,7 +64,7 @@ module _ (plan : Plan) (arb : Arbiter) (xs : List ℕ) where
   unfoldable pub advanced : Stepped
   advanced =
       record {
-        served = record { answer = answer.Given served_now; turned = padded turned_at plan.n 8 0 };
+        served = record { client = served_now; turned = padded turned_at plan.n 8 0 };
         next = record { position = next_of plan.f arb.position; pending = less_one served_now joined };
       }
 
@@ -75,38 +72,42 @@ module _ (plan : Plan) (arb : Arbiter) (xs : List ℕ) where
 
 -- 17: "the arbiter's position is not below f"
 unfoldable pub position_check : ℕ → ℕ → Outcome
-position_check f position = unless (ltb position f) refusal.position 0
+position_check f position = unless (ltb position f) refusal.Position 0
 
 -- 18: "the arrivals list does not have n entries"
 unfoldable pub arrivals_check : ℕ → ℕ → Outcome
-arrivals_check n arrived = unless (eqb arrived n) refusal.arrivals 0
+arrivals_check n arrived = unless (eqb arrived n) refusal.Arrivals 0
 
 -- "a step 17, 18", after the plan's checks
 unfoldable pub step_check : Plan → ℕ → ℕ → Outcome
 step_check plan position arrived =
     or_else (plan_check plan) (or_else (position_check plan.f position) (arrivals_check plan.n arrived))
 
--- "A refusal .. returns its number with all other results 0, leaves .. an arbiter record unchanged"
-abbrev pub refused_step : ℕ → Arbiter → Stepped
-refused_step number arb =
-    record { served = record { answer = answer.Refused number; turned = replicate 8 0 }; next = arb }
+-- "A refusal .. returns .. all other results 0, leaves .. an arbiter record unchanged"
+abbrev pub refused_step : Arbiter → Stepped
+refused_step arb = record { served = record { client = 0; turned = replicate 8 0 }; next = arb }
 
 -- what a step gives, by what its checks found
 abbrev pub stepped_by : Outcome → Stepped → Arbiter → Stepped
-stepped_by outcome.Fine goes arb = goes
-stepped_by (outcome.Refused number offset) goes arb = refused_step number arb
+stepped_by (Ok u) goes arb = goes
+stepped_by (Err refused) goes arb = refused_step arb
 
--- one step, with this list of arrivals: its answer and the record after it
+-- one step, with this list of arrivals: whom it serves and the record after it
 unfoldable pub step_of : Plan → Arbiter → List ℕ → Stepped
 step_of plan arb xs = stepped_by (step_check plan arb.position (length xs)) (advanced plan arb xs) arb
 
--- ---- the answer's cases
+-- ---- what is said of it
 
--- what a step says: the client served, or 0; or the refusal's number
-abbrev pub step_said : StepAnswer → Said ℕ
-step_said (answer.Given client) = given client
-step_said (answer.Refused number) = refused number
+-- what it gives, or why it is refused, by what its checks found
+abbrev pub said_by : Outcome → Stepped → Said Stepped
+said_by (Ok u) goes = Ok goes
+said_by (Err refused) goes = Err refused.why
 
--- "The result names the client served, or 0", as a refusal does
-abbrev pub client_served : StepAnswer → ℕ
-client_served answer = said_or 0 (step_said answer)
+-- that, with this list of arrivals
+unfoldable pub step_said : Plan → Arbiter → List ℕ → Said Stepped
+step_said plan arb xs = said_by (step_check plan arb.position (length xs)) (step_of plan arb xs)
+
+-- the part of it that says whom the step serves
+abbrev pub served_said : Said Stepped → Said Served
+served_said (Ok stepped) = Ok stepped.served
+served_said (Err why) = Err why

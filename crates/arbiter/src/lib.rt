@@ -5,10 +5,10 @@
 pub mod inner; // inner.rt
 
 ghost use Rattle.std.specs.Prelude.{◌≡◌};
-ghost use Rattle.arbiter.specs.Step.{step_of};
+ghost use Rattle.arbiter.specs.Step.{step_of, step_said, served_said};
 
 use plan::Plan;
-use records::Outcome;
+use records::refusal::Refusal;
 
 // The record: the position in the frame, and each client's pending count.
 #[derive(Clone, Copy)]
@@ -17,21 +17,14 @@ pub struct Arbiter {
     pub pending: [u8; 8],
 }
 
-// The client served in a slot, 0 where it passes unused; or the refusal's number.
-#[derive(Clone, Copy)]
-pub enum StepAnswer {
-    Given(usize),
-    Refused(u8),
-}
-
-// What a step says: whom it served, and each client's requests turned away.
+// Whom a step serves, 0 where the slot passes unused, and each client's requests turned away.
 #[derive(Clone, Copy)]
 pub struct Served {
-    pub answer: StepAnswer,
+    pub client: usize,
     pub turned: [u8; 8],
 }
 
-// What a step gives: its answer, and the record after it.
+// What a step gives: whom it serves, and the record after it.
 #[derive(Clone, Copy)]
 pub struct Stepped {
     pub served: Served,
@@ -39,42 +32,30 @@ pub struct Stepped {
 }
 
 // One step with each client's arrivals, by value: the plan's refusals, then 17 and 18.
-pub fn step(plan: Plan, arbiter: Arbiter, arrivals: &[u8]) -> Stepped
-    ensures { result ≡ step_of plan arbiter arrivals.now }
+#[tactic(auto, unfolding(crate::specs::Step::step_said, crate::specs::Step::step_of))]
+pub fn step(plan: Plan, arbiter: Arbiter, arrivals: &[u8]) -> Result<Stepped, Refusal>
+    ensures { result ≡ step_said plan arbiter arrivals.now }
 {
-    let checked = inner::check_step(plan, arbiter.position, arrivals.len());
-    if let Outcome::Refused(number, offset) = checked {
-        let none = [0u8; 8];
-        let served = Served {
-            answer: StepAnswer::Refused(number),
-            turned: none,
-        };
-        return Stepped {
-            served: served,
-            next: arbiter,
-        };
-    }
-    inner::advance(plan, arbiter, arrivals)
+    inner::check_step(plan, arbiter.position, arrivals.len())?;
+    Ok(inner::advance(plan, arbiter, arrivals))
 }
 
-// The same step on a record that is lent and changed in place.
-pub fn step_in_place(plan: Plan, arbiter: &mut Arbiter, arrivals: &[u8]) -> Served
-    ensures { (result ≡ (step_of plan arbiter.old arrivals.now).served)
+// The same step on a record that is lent and changed in place; a refusal leaves it as it was.
+#[tactic(auto, using(crate::proofs::Slots::said_given, crate::proofs::Slots::said_stopped))]
+pub fn step_in_place(plan: Plan, arbiter: &mut Arbiter, arrivals: &[u8]) -> Result<Served, Refusal>
+    ensures { (result ≡ served_said (step_said plan arbiter.old arrivals.now))
         × (arbiter.new ≡ (step_of plan arbiter.old arrivals.now).next) }
 {
-    let out = step(plan, *arbiter, arrivals);
-    *arbiter = out.next;
-    out.served
+    let stepped = step(plan, *arbiter, arrivals)?;
+    *arbiter = stepped.next;
+    Ok(stepped.served)
 }
 
 // The step in place, called on a local that is lent: it gives what `step` gives.
-pub fn step_lending(plan: Plan, arbiter: Arbiter, arrivals: &[u8]) -> Stepped
-    ensures { result ≡ step_of plan arbiter arrivals.now }
+pub fn step_lending(plan: Plan, arbiter: Arbiter, arrivals: &[u8]) -> Result<Stepped, Refusal>
+    ensures { result ≡ step_said plan arbiter arrivals.now }
 {
-    let mut lent = arbiter;
-    let served = step_in_place(plan, &mut lent, arrivals);
-    Stepped {
-        served: served,
-        next: lent,
-    }
+    let mut next = arbiter;
+    let served = step_in_place(plan, &mut next, arrivals)?;
+    Ok(Stepped { served, next })
 }

@@ -10,22 +10,14 @@ mod reply; // reply.rt
 use input::read_full;
 use std::io;
 use std::io::{Read, Write};
-use text::PAGE;
-
-// The front of a page is written.
-fn send<W: Write>(to: &mut W, page: &[u8; PAGE], size: usize) -> io::Result<()> {
-    to.write_all(case::part(page, 0, size))
-}
 
 // One case is read and its reply written; false where no whole case is left.
 fn answer_one<R: Read, W: Write>(from: &mut R, to: &mut W) -> io::Result<bool> {
-    let mut case = [0u8; case::SIZE];
+    let mut case = [0; case::SIZE];
     if read_full(from, &mut case)? < case::SIZE {
         return Ok(false);
     }
-    let mut page = [0u8; PAGE];
-    let size = ops::put_reply(&mut page, &case);
-    send(to, &page, size)?;
+    to.write_all(ops::reply_to(&case).bytes())?;
     Ok(true)
 }
 

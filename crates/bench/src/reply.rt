@@ -1,59 +1,95 @@
-// The words of a reply, put into a page one after the other; the answer is the place after. No room is asked for: what
-// does not fit is left out. No reply fills half a page, so nothing ever is.
-use records::wide;
+// A reply: words put into a page one after the other. No room is asked for: what does not fit is left out. No reply
+// fills half a page, so nothing ever is.
+use records::output::Output;
+use records::refusal::Refusal;
 use text::PAGE;
-use text::inner::{put, put_decimal};
+use text::inner::put_decimal;
 
-// A fixed byte string, as it stands.
-fn put_piece(out: &mut [u8; PAGE], at: usize, text: &[u8]) -> usize {
-    if PAGE < text.len() {
-        return at;
+// A page, of which this much is filled.
+#[derive(Drop)]
+pub struct Reply {
+    page: [u8; PAGE],
+    size: usize,
+}
+
+impl Reply {
+    // A reply with no words.
+    pub fn new() -> Reply {
+        Reply {
+            page: [0; PAGE],
+            size: 0,
+        }
     }
-    if PAGE - text.len() < at {
-        return at;
+
+    // A reply that is a text with its own line ends, which is put into the page whole.
+    pub fn text<F: FnOnce(&[u8], &mut [u8; PAGE]) -> usize>(s: &[u8], put_text: F) -> Reply
+        requires { F.IsAlwaysCallable put_text }
+    {
+        let mut page = [0; PAGE];
+        let size = put_text(s, &mut page);
+        Reply { page, size }
     }
-    put(out, at, text)
-}
 
-// The space before a word that is not the first.
-fn put_space(out: &mut [u8; PAGE], at: usize) -> usize {
-    if at == 0 {
-        return 0;
+    // The bytes of the reply.
+    pub fn bytes(&self) -> &[u8] {
+        &self.page[..self.size.min(PAGE)]
     }
-    put_piece(out, at, b" ")
-}
 
-// The next word.
-pub fn put_next(out: &mut [u8; PAGE], at: usize, word: &[u8]) -> usize {
-    let next = put_space(out, at);
-    put_piece(out, next, word)
-}
-
-// The next word, a number: no number has more than twenty digits.
-pub fn put_number(out: &mut [u8; PAGE], at: usize, x: usize) -> usize {
-    let next = put_space(out, at);
-    if PAGE - 20 < next {
-        return next;
+    // A fixed byte string, as it stands.
+    fn put_piece(&mut self, piece: &[u8]) {
+        let at = self.size;
+        if at.saturating_add(piece.len()) <= PAGE {
+            let mut out = Output {
+                lent: &mut self.page,
+                at,
+            };
+            out.put(piece);
+            self.size = out.at;
+        }
     }
-    put_decimal(out, next, x)
-}
 
-// The next words, a number for each byte.
-pub fn put_numbers(out: &mut [u8; PAGE], at: usize, bytes: &[u8]) -> usize {
-    let mut next = at;
-    for i in 0..bytes.len() {
-        next = put_number(out, next, wide(bytes[i]));
+    // The space before a word that is not the first.
+    fn put_space(&mut self) {
+        if self.size != 0 {
+            self.put_piece(b" ");
+        }
     }
-    next
-}
 
-// The first words of a reply that is a refusal.
-pub fn put_refusal(out: &mut [u8; PAGE], number: u8) -> usize {
-    let next = put_next(out, 0, b"refusal");
-    put_number(out, next, wide(number))
-}
+    // The next word.
+    pub fn word(&mut self, word: &[u8]) {
+        self.put_space();
+        self.put_piece(word);
+    }
 
-// The end of the line.
-pub fn put_end(out: &mut [u8; PAGE], at: usize) -> usize {
-    put_piece(out, at, b"\n")
+    // The next word, a number: no number has more than twenty digits.
+    pub fn number(&mut self, x: usize) {
+        self.put_space();
+        let at = self.size;
+        if at <= PAGE - 20 {
+            let mut out = Output {
+                lent: &mut self.page,
+                at,
+            };
+            put_decimal(&mut out, x);
+            self.size = out.at;
+        }
+    }
+
+    // The next words, a number for each byte.
+    pub fn numbers(&mut self, bytes: &[u8]) {
+        for &x in bytes {
+            self.number(usize::from(x));
+        }
+    }
+
+    // The first words of a reply that is a refusal.
+    pub fn refusal(&mut self, why: Refusal) {
+        self.word(b"refusal");
+        self.number(usize::from(u8::from(why)));
+    }
+
+    // The end of the line.
+    pub fn end(&mut self) {
+        self.put_piece(b"\n");
+    }
 }

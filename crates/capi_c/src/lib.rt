@@ -5,12 +5,12 @@
 ghost use Rattle.std.specs.Prelude.{◌∷◌, []};
 ghost use Rattle.plan.specs.Plan.{default_waiting};
 ghost use Rattle.text.specs.Text.{Puts, Lendable};
-ghost use Rattle.figures.specs.Figures.{figure_said, IsFigures, wait_said, IsWaitFor};
+ghost use Rattle.figures.specs.Figures.{IsFigures, IsWaitFor};
 ghost use Rattle.judge.specs.declared.Verdict.TheVariants.{Ok};
-ghost use Rattle.judge.specs.Judge.{acceptance, judge_said, IsJudged, verdict_said, IsVerdictOf};
+ghost use Rattle.judge.specs.Judge.{acceptance, IsJudged, IsVerdictOf};
 ghost use Rattle.listing.specs.Listing.{IsReport, IsHoming};
-ghost use Rattle.capi.specs.Calls.{figure_values, no_figure, wait_values, verdict_values, judgement_values};
-ghost use Rattle.capi.specs.Calls.{ToldRead, Told, ToldWrite, ToldSearch, ToldStep};
+ghost use Rattle.capi.specs.Calls.{figure_values, no_figure, wait_values, verdict_values, judgement_values, ToldRead};
+ghost use Rattle.capi.specs.Calls.{Told, ToldWrite, ToldSearch, ToldStep};
 
 use capi::RECORD;
 use stream::LONGEST;
@@ -32,7 +32,7 @@ pub extern "C" fn gwelathur_figures(
     slots: &mut usize,
     scaled: &mut usize,
 ) -> usize
-    ensures { Told (λ plan. IsFigures plan client) figure_said no_figure figure_values s.now result
+    ensures { Told (λ plan. IsFigures plan client) no_figure figure_values s.now result
         (slots.new ∷ scaled.new ∷ []) }
 {
     capi::gwelathur_figures(s, client, slots, scaled)
@@ -41,8 +41,7 @@ pub extern "C" fn gwelathur_figures(
 // A client's wait for this many waiting requests.
 #[unsafe(no_mangle)]
 pub extern "C" fn gwelathur_wait(s: &[u8], client: usize, waiting: usize, wait: &mut usize) -> usize
-    ensures { Told (λ plan. IsWaitFor plan client waiting) wait_said 0 wait_values s.now result
-        (wait.new ∷ []) }
+    ensures { Told (λ plan. IsWaitFor plan client waiting) 0 wait_values s.now result (wait.new ∷ []) }
 {
     capi::gwelathur_wait(s, client, waiting, wait)
 }
@@ -50,8 +49,7 @@ pub extern "C" fn gwelathur_wait(s: &[u8], client: usize, waiting: usize, wait: 
 // A client's wait, asked without a number.
 #[unsafe(no_mangle)]
 pub extern "C" fn gwelathur_default_wait(s: &[u8], client: usize, wait: &mut usize) -> usize
-    ensures { Told (λ plan. IsWaitFor plan client default_waiting) wait_said 0 wait_values s.now result
-        (wait.new ∷ []) }
+    ensures { Told (λ plan. IsWaitFor plan client default_waiting) 0 wait_values s.now result (wait.new ∷ []) }
 {
     capi::gwelathur_default_wait(s, client, wait)
 }
@@ -65,7 +63,7 @@ pub extern "C" fn gwelathur_judge(
     start: &mut usize,
     length: &mut usize,
 ) -> usize
-    ensures { Told IsJudged judge_said acceptance judgement_values s.now result
+    ensures { Told IsJudged acceptance judgement_values s.now result
         (client.new ∷ verdict.new ∷ start.new ∷ length.new ∷ []) }
 {
     capi::gwelathur_judge(s, client, verdict, start, length)
@@ -74,8 +72,7 @@ pub extern "C" fn gwelathur_judge(
 // A client's verdict.
 #[unsafe(no_mangle)]
 pub extern "C" fn gwelathur_verdict(s: &[u8], client: usize, verdict: &mut usize) -> usize
-    ensures { Told (λ plan. IsVerdictOf plan client) verdict_said Ok verdict_values s.now result
-        (verdict.new ∷ []) }
+    ensures { Told (λ plan. IsVerdictOf plan client) Ok verdict_values s.now result (verdict.new ∷ []) }
 {
     capi::gwelathur_verdict(s, client, verdict)
 }
@@ -117,8 +114,7 @@ pub extern "C" fn gwelathur_step(
     arrivals: &[u8],
     answer: &mut [u8; RECORD],
 ) -> usize
-    ensures { ToldStep s.now arbiter.old arrivals.now result
-        arbiter.new answer.new }
+    ensures { ToldStep s.now arbiter.old arrivals.now result arbiter.new answer.new }
 {
     capi::gwelathur_step(s, arbiter, arrivals, answer)
 }

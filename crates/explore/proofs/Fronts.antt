@@ -3,19 +3,19 @@
 -- Assumes nothing.
 use mathlib.Core.Path.{◌≡◌, refl, sym, ap, ◌∙◌}
 use mathlib.Core.List.{List, [], ◌∷◌, ◌++◌}
-use Prim.Native.Nat.{ℕ, zero, suc, ◌+◌, ◌≤◌, ◌<◌}
+use Prim.Native.Nat.{ℕ, zero, suc, ◌+◌, ◌*◌, ◌≤◌, ◌<◌}
 use native.Mathlib.Numerals.{add-one}
 use native.Mathlib.Omega.{arith}
 use lib.Dec.{eqb}
 use lib.ListN.{length, get_or, set, take, replicate, length-append, get_or-replicate}
-use lib.Seq.{take-suc-set}
+use lib.Seq.{get_or-take, take-suc-set}
 use Rattle.records.specs.First.{pick}
 use Rattle.records.proofs.Checks.{none_or_one}
 use Rattle.explore.specs.declared.Front.{Front}
 use Rattle.explore.specs.Best.{Table, owned}
-use Rattle.explore.specs.Needs.{child_of, node_of, need_of}
+use Rattle.explore.specs.Needs.{child_of, node_of, need_of, need_after}
 use Rattle.explore.specs.Seen.{owners_of, IsFront}
-use Rattle.explore.proofs.Needs.{node_none, node_more, node_below, need_same, need_after}
+use Rattle.explore.proofs.Needs.{node_none, node_more, node_below, need_same}
 
 -- ---- owned places
 
@@ -65,6 +65,10 @@ module _ (n : ℕ) (front : Front) (is : IsFront n front) where
 
   pub nodes_small : (i : ℕ) → i < n → get_or front.nodes i 0 < 512
   nodes_small i l = rw (is.nodes i l) (node_below (i + 1) (owners_of front) 9 (omega (arith, is.table.long)))
+
+  -- where the loop reads what client i + 1 needs
+  pub needs_small : (i : ℕ) → i < n → n ≤ 8 → i * 512 + get_or (take n front.nodes) i 0 < 4096
+  needs_small i l most = rw (get_or-take n front.nodes i 0 l) (omega (arith, nodes_small i l))
 
   pub front_need : (trees : List ℕ)
       → need_of trees (λ i. get_or front.nodes i 0) n ≡ need_after trees n (owners_of front)

@@ -18,7 +18,7 @@ use lib.Seq.{append_snoc}
 use Rattle.records.specs.First.{pick}
 use Rattle.records.proofs.Checks.{one_or_none, last_or_below}
 use Rattle.explore.specs.Best.{owned}
-use Rattle.explore.specs.Needs.{child_of, node_from, node_of, need_at, need_of, NoneInNeed, Sound}
+use Rattle.explore.specs.Needs.{child_of, node_from, node_of, need_at, need_of, need_after, NoneInNeed, Sound}
 
 -- ---- nodes
 
@@ -79,10 +79,6 @@ pub need_same : (trees : List ℕ) (node node' : ℕ → ℕ) (n : ℕ) → ((i 
 unfolding need_of
 need_same trees node node' zero e = refl
 need_same trees node node' (suc n) e = rw (need_same trees node node' n (λ i l. e i (omega arith)), e n (omega arith))
-
--- what the first n clients need after the front p
-abbrev pub need_after : List ℕ → ℕ → List ℕ → ℕ
-need_after trees n p = need_of trees (λ i. node_of (i + 1) p) n
 
 -- nothing is needed exactly where the filling suits every client
 each_none : (trees : List ℕ) (n : ℕ) (p : List ℕ) → need_after trees n p ≡ 0 → (i : ℕ) → i < n

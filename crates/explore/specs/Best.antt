@@ -1,6 +1,6 @@
 -- Tables, and which one is best: "of all accepted tables, one with the fewest owned slots, and among those the least in
 -- dictionary order, slot 0 first, idle lowest" (document 01, Judging and searching). P stands for "accepted".
-use Rattle.std.specs.Prelude.{◌≡◌, Bool, true, false, List, [], ◌∷◌, ◌⊎◌, ℕ, ◌+◌, ◌<◌, ◌≤◌, eqb, length, get_or}
+use Rattle.std.specs.Prelude.{◌≡◌, List, [], ◌∷◌, Option, Some, None, ◌⊎◌, ℕ, ◌+◌, ◌<◌, ◌≤◌, eqb, length, get_or, take}
 use Rattle.records.specs.First.{pick}
 
 -- a table of f slots: "Each slot has an owner: 0 for idle, or a client", 1 to n
@@ -30,7 +30,7 @@ pub record IsBest (P : List ℕ → Type 0) (f n : ℕ) (t : List ℕ) : Type 0 
 abbrev pub NoTable : (List ℕ → Type 0) → ℕ → ℕ → Type 0
 NoTable P f n = (u : List ℕ) → Table f n u → P u → ⊥
 
--- found says whether there is an accepted table, and if there is, t is the best
-abbrev pub BestOf : (List ℕ → Type 0) → ℕ → ℕ → Bool → List ℕ → Type 0
-BestOf P f n true t = IsBest P f n t
-BestOf P f n false t = NoTable P f n
+-- the table found, t's first f owners, is the best, and where none is found no table is accepted
+abbrev pub BestOf : (List ℕ → Type 0) → ℕ → ℕ → Option (List ℕ) → Type 0
+BestOf P f n (Some t) = IsBest P f n (take f t)
+BestOf P f n None = NoTable P f n

@@ -26,6 +26,10 @@ unfoldable pub need_of : List ℕ → (ℕ → ℕ) → ℕ → ℕ
 need_of trees node zero = 0
 need_of trees node (suc i) = need_of trees node i + need_at trees i (node i)
 
+-- and after the front p, each at the node that it leads to
+abbrev pub need_after : List ℕ → ℕ → List ℕ → ℕ
+need_after trees n p = need_of trees (λ i. node_of (i + 1) p) n
+
 -- a filling leaves none of the first n clients in need
 pub record NoneInNeed (trees : List ℕ) (n : ℕ) (owners : List ℕ) : Type 0 where
   pub each : (i : ℕ) → i < n → need_at trees i (node_of (i + 1) owners) ≡ 0

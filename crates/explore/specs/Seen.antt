@@ -1,6 +1,6 @@
 -- What the walk through the fillings has seen: it goes through them in dictionary order, and keeps the best of those
 -- that it has passed. Only the functions of this crate are specified by it.
-use Rattle.std.specs.Prelude.{◌≡◌, Bool, true, false, List, [], ◌∷◌, ◌⊎◌, ℕ, ◌+◌, ◌<◌, ◌≤◌, get_or, take}
+use Rattle.std.specs.Prelude.{◌≡◌, List, [], ◌∷◌, Option, Some, None, ◌⊎◌, ℕ, ◌+◌, ◌<◌, ◌≤◌, get_or, take}
 use Rattle.explore.specs.declared.Best.{Best}
 use Rattle.explore.specs.declared.Front.{Front}
 use Rattle.explore.specs.Best.{Table, owned, LexLe}
@@ -43,20 +43,15 @@ module _ (P : List ℕ → Type 0) (g n : ℕ) (Q : List ℕ → Type 0) where
     pub fewest : (u : List ℕ) → Table g n u → Q u → P u → given ≤ owned u
     pub least : (u : List ℕ) → Table g n u → Q u → P u → owned u ≡ given → LexLe t u
 
-  -- none was seen; any that comes gives fewer places than this
-  pub record NoneYet (given : ℕ) : Type 0 where
-    pub count : given ≡ g + 1
+  -- none was seen
+  pub record NoneYet : Type 0 where
     pub none : (u : List ℕ) → Table g n u → Q u → P u → ⊥
 
-  -- either of them
-  abbrev pub Seen : Bool → List ℕ → ℕ → Type 0
-  Seen true t given = Kept t given
-  Seen false t given = NoneYet given
-
   -- what the walk holds
-  abbrev pub Holds : Best → Type 0
-  Holds best = Seen best.found (take g best.owners) best.given
+  abbrev pub Holds : Option Best → Type 0
+  Holds (Some best) = Kept (take g best.owners) best.given
+  Holds None = NoneYet
 
 -- from one best to the next, all fillings that begin with the front p were seen
-pub record Explored (trees : List ℕ) (g n : ℕ) (p : List ℕ) (from to : Best) : Type 0 where
+pub record Explored (trees : List ℕ) (g n : ℕ) (p : List ℕ) (from to : Option Best) : Type 0 where
   pub on : Sound trees g n → Holds (NoneInNeed trees n) g n (Before p) from → Holds (NoneInNeed trees n) g n (UpTo p) to

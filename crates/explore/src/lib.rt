@@ -4,10 +4,9 @@
 
 pub mod inner; // inner.rt
 
-// The best filling so far: whether there is one, the owners of its places, and how many places it gives.
+// The best filling so far: the owners of its places, and how many places it gives.
 #[derive(Clone, Copy)]
 pub struct Best {
-    pub found: bool,
     pub owners: [u8; 8],
     pub given: usize,
 }

@@ -5,19 +5,17 @@ use Prim.Native.Nat.{ℕ, ◌≤◌, ◌<◌}
 use native.Mathlib.Omega.{arith}
 use Rattle.frame.specs.Frame.{Frame, IsScaled, IsWait}
 use Rattle.frame.proofs.Limits.{scaled_small}
-use Rattle.records.specs.declared.Outcome.TheVariants as outcome
-use Rattle.records.proofs.Checks.{refused_first}
+use Rattle.std.specs.Prelude.{Ok}
+use Rattle.records.specs.First.{Fine}
 use Rattle.plan.specs.declared.Plan.{Plan}
 use Rattle.plan.specs.Plan.{own_of}
 use Rattle.figures.specs.declared.Figure.{Figure}
-use Rattle.figures.specs.declared.FigureAnswer.TheVariants as figures
-use Rattle.figures.specs.declared.WaitAnswer.TheVariants as wait
-use Rattle.figures.specs.Check.{figure_check, waiting_check, wait_check}
+use Rattle.figures.specs.Check.{waiting_check, wait_check}
 use Rattle.figures.specs.Figures.{IsFigures, IsWaitFor}
 use Rattle.figures.proofs.Laws.{frame_of, count_small}
 use Rattle.figures.proofs.Questions.{figure_fine}
 
-module _ (plan : Plan) (c : ℕ) (figure : Figure) (is : IsFigures plan c (figures.Given figure)) where
+module _ (plan : Plan) (c : ℕ) (figure : Figure) (is : IsFigures plan c (Ok figure)) where
   -- a figure that is given is the client's: its m is the figure's, and so is its L
   pub given_frame : Frame (own_of plan c) plan.f figure.slots
   given_frame = rw is.1.slots (frame_of plan c (figure_fine plan c is.0).checked.bounds.f_low)
@@ -38,14 +36,8 @@ module _ (plan : Plan) (c : ℕ) (figure : Figure) (is : IsFigures plan c (figur
       )
 
   -- and its wait is the client's
-  pub waits_given : (k slots : ℕ) → waiting_check k ≡ outcome.Fine
-      → IsWait plan.f figure.slots figure.scaled k slots → IsWaitFor plan c k (wait.Given slots)
+  pub waits_given : (k slots : ℕ) → waiting_check k ≡ Fine
+      → IsWait plan.f figure.slots figure.scaled k slots → IsWaitFor plan c k (Ok slots)
   unfolding wait_check
   waits_given k slots e h =
       (rw is.0 e, record { L = figure.scaled; scaled = is.1.scaled; least = rw is.1.slots at h })
-
--- a refused figure is a refused wait
-pub waits_stopped : (plan : Plan) (c k number : ℕ) → IsFigures plan c (figures.Refused number)
-    → IsWaitFor plan c k (wait.Refused number)
-unfolding wait_check
-waits_stopped plan c k number = refused_first (figure_check plan c) (waiting_check k) number

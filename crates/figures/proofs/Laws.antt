@@ -4,7 +4,7 @@
 use mathlib.Core.Path.{◌≡◌, refl, sym, ap, ◌∙◌}
 use mathlib.Core.List.{List}
 use Prim.Native.Nat.{ℕ, ◌+◌, ◌-◌, ◌*◌, ◌%◌, ◌≤◌, ◌<◌}
-use native.Mathlib.Nat.{zero-add, add-zero, add_assoc, mod-lt, mod-eq_of_lt, mul-le-mul}
+use native.Mathlib.Nat.{zero-add, add-zero, add_assoc, mod-eq_of_lt}
 use native.Mathlib.Omega.{arith}
 use lib.ListN.{get_or}
 use Rattle.frame.specs.Frame.{next_of, within, slots_of, Frame, IsScaled}
@@ -27,9 +27,6 @@ frame_of plan c f> =
 
 -- ---- small numbers
 
-pub product_small : (a b : ℕ) → a ≤ 64 → b ≤ 64 → a * b ≤ 4096
-product_small a b l h = mul-le-mul l h
-
 pub count_small : (owners : List ℕ) (f c s j : ℕ) → j ≤ 64 → within (own_in owners f c) s j ≤ 64
 count_small owners f c s j l = omega (arith, within_most (own_in owners f c) (own_most owners f c) s j)
 
@@ -50,10 +47,6 @@ place_first f at l = sym (ap (λ (x : ℕ). x % f) (zero-add at) ∙ mod-eq_of_l
 
 pub place_zero : (f s : ℕ) → s < f → s ≡ (s + 0) % f
 place_zero f s l = sym (ap (λ (x : ℕ). x % f) (add-zero s) ∙ mod-eq_of_lt l)
-
--- the place is one of the frame
-pub in_frame : (f s j at : ℕ) → s < f → at ≡ (s + j) % f → at < f
-in_frame f s j at l e = let f> : 0 < f = omega arith in omega (arith, mod-lt (s + j) f>)
 
 pub place_on : (f s j at : ℕ) → at ≡ (s + j) % f → next_of f at ≡ (s + (j + 1)) % f
 place_on f s j at e = ap (next_of f) e ∙ next_mod f (s + j) ∙ ap (λ (x : ℕ). x % f) (add_assoc s j 1)

@@ -6,10 +6,9 @@ use Prim.Native.Nat.{ℕ}
 use native.Mathlib.Omega.{arith}
 use lib.Dec.{leb}
 use Rattle.frame.specs.Frame.{slots_of}
-use Rattle.records.specs.Refusal as refusal
-use Rattle.records.specs.First.{or_else, Gives}
-use Rattle.records.specs.declared.Outcome.{Outcome}
-use Rattle.records.specs.declared.Outcome.TheVariants.{Fine, Refused}
+use Rattle.records.specs.declared.refusal.Refusal.TheVariants as refusal
+use Rattle.std.specs.Prelude.{Ok, Err}
+use Rattle.records.specs.First.{or_else, Gives, Outcome}
 use Rattle.records.proofs.Checks.{range_pass}
 use Rattle.records.proofs.Refusals.{unless_gives, range_gives, or_gives}
 use Rattle.plan.specs.declared.Plan.{Plan}
@@ -25,19 +24,19 @@ unfolding figure_check
 figure_gives plan c =
     let ks : List ℕ = 14 ∷ [] in
     or_gives asked_numbers ks (asked_check plan c) (owns_check plan c) (asked_gives plan c)
-    (unless_gives ks (leb 1 (slots_of (own_of plan c) plan.f)) refusal.no_slot 0 refl)
+    (unless_gives ks (leb 1 (slots_of (own_of plan c) plan.f)) refusal.NoSlot 0 refl)
 
 pub wait_gives : (plan : Plan) (c k : ℕ) → Gives wait_numbers (wait_check plan c k)
 unfolding wait_check
 wait_gives plan c k =
     let ks : List ℕ = 15 ∷ [] in
     or_gives figure_numbers ks (figure_check plan c) (waiting_check k) (figure_gives plan c)
-    (range_gives ks k most_waiting refusal.waiting refl)
+    (range_gives ks k most_waiting refusal.Waiting refl)
 
 pub default_check : (plan : Plan) (c : ℕ) → wait_check plan c default_waiting ≡ figure_check plan c
 unfolding wait_check
 default_check plan c = by (figure_check plan c)
   where
     by : (o : Outcome) → or_else o (waiting_check default_waiting) ≡ o
-    by Fine = range_pass default_waiting most_waiting refusal.waiting (omega arith) (omega arith)
-    by (Refused k offset) = refl
+    by (Ok u) = range_pass default_waiting most_waiting refusal.Waiting (omega arith) (omega arith)
+    by (Err refused) = refl

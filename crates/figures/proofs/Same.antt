@@ -2,17 +2,17 @@
 -- Assumes nothing.
 use mathlib.Core.Path.{◌≡◌, fun_ext}
 use Prim.Native.Nat.{ℕ, ◌<◌}
-use Rattle.records.specs.declared.Outcome.TheVariants.{Fine}
+use Rattle.records.specs.First.{Fine}
+use Rattle.records.specs.Said.{Said}
 use Rattle.records.proofs.Checks.{both_fine, or_same}
 use Rattle.records.proofs.Said.{answers_same}
 use Rattle.plan.specs.declared.Plan.{Plan}
 use Rattle.plan.specs.Plan.{own_of, Same}
 use Rattle.plan.specs.Check.{asked_check}
 use Rattle.plan.proofs.Laws.{asked_fine, same_asked, own_same}
-use Rattle.figures.specs.declared.FigureAnswer.{FigureAnswer}
-use Rattle.figures.specs.declared.WaitAnswer.{WaitAnswer}
+use Rattle.figures.specs.declared.Figure.{Figure}
 use Rattle.figures.specs.Check.{owns_check, figure_check, wait_check}
-use Rattle.figures.specs.Figures.{IsFigure, figure_said, IsFigures, Waits, wait_said, IsWaitFor}
+use Rattle.figures.specs.Figures.{IsFigure, IsFigures, Waits, IsWaitFor}
 use Rattle.figures.proofs.Questions.{figure_fine}
 
 module _ (plan other : Plan) (same : Same plan other) (c : ℕ) where
@@ -36,12 +36,10 @@ module _ (plan other : Plan) (same : Same plan other) (c : ℕ) where
   carried P fine holds =
       rw (slots_same (figure_fine plan c fine).checked.bounds.f_low, same.frame) at holds
 
-  pub figures_same : (r : FigureAnswer) → IsFigures plan c r → IsFigures other c r
-  figures_same r =
-      answers_same figure_check_same (λ fine x. carried (λ own f. IsFigure own f x) fine) (figure_said r)
+  pub figures_same : (r : Said Figure) → IsFigures plan c r → IsFigures other c r
+  figures_same = answers_same figure_check_same (λ fine x. carried (λ own f. IsFigure own f x) fine)
 
-  pub waits_same : (k : ℕ) (r : WaitAnswer) → IsWaitFor plan c k r → IsWaitFor other c k r
+  pub waits_same : (k : ℕ) (r : Said ℕ) → IsWaitFor plan c k r → IsWaitFor other c k r
   unfolding wait_check
-  waits_same k r =
+  waits_same k =
       answers_same (wait_check_same k) (λ fine x. carried (λ own f. Waits own f k x) (both_fine _ _ fine).0)
-      (wait_said r)

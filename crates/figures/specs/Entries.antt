@@ -3,10 +3,8 @@ use Rattle.std.specs.Prelude.{List, [], ◌∷◌, ◌++◌, ℕ}
 use Rattle.records.specs.Entry.{Entry, says}
 use Rattle.plan.specs.Plan.{Same, default_waiting}
 use Rattle.plan.specs.Entries.{asked_numbers}
-use Rattle.figures.specs.declared.FigureAnswer.TheVariants as figures
-use Rattle.figures.specs.declared.WaitAnswer.TheVariants as wait
 use Rattle.figures.specs.Check.{figure_check, wait_check}
-use Rattle.figures.specs.Figures.{figure_said, IsFigures, wait_said, IsWaitFor}
+use Rattle.figures.specs.Figures.{IsFigures, IsWaitFor}
 
 -- "figures 13, 14", after the plan's
 abbrev pub figure_numbers : List ℕ
@@ -18,15 +16,13 @@ wait_numbers = figure_numbers ++ (15 ∷ [])
 
 -- `figure_of`
 abbrev pub figure_entry : Entry
-figure_entry = says Same IsFigures figure_check figure_numbers figure_said figures.Refused
+figure_entry = says Same IsFigures figure_check figure_numbers
 
 -- `wait_for`
 abbrev pub wait_entry : Entry
 wait_entry =
     says Same (λ plan (x : ℕ × ℕ). IsWaitFor plan x.0 x.1) (λ plan x. wait_check plan x.0 x.1) wait_numbers
-    wait_said wait.Refused
 
 -- `default_wait`: 15 is never given
 abbrev pub default_entry : Entry
-default_entry =
-    says Same (λ plan c. IsWaitFor plan c default_waiting) figure_check figure_numbers wait_said wait.Refused
+default_entry = says Same (λ plan c. IsWaitFor plan c default_waiting) figure_check figure_numbers

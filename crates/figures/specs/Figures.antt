@@ -1,14 +1,10 @@
 -- A client's figures (document 01, Figures), and what is answered about them.
 use Rattle.std.specs.Prelude.{◌≡◌, ℕ}
 use Rattle.frame.specs.Frame.{slots_of, IsScaled, IsWait}
-use Rattle.records.specs.Said.{Said, given, refused, Answers}
+use Rattle.records.specs.Said.{Said, Answers}
 use Rattle.plan.specs.declared.Plan.{Plan}
 use Rattle.plan.specs.Plan.{own_of}
 use Rattle.figures.specs.declared.Figure.{Figure}
-use Rattle.figures.specs.declared.FigureAnswer.{FigureAnswer}
-use Rattle.figures.specs.declared.FigureAnswer.TheVariants as figures
-use Rattle.figures.specs.declared.WaitAnswer.{WaitAnswer}
-use Rattle.figures.specs.declared.WaitAnswer.TheVariants as wait
 use Rattle.figures.specs.Check.{figure_check, wait_check}
 
 -- ---- figures
@@ -18,14 +14,9 @@ pub record IsFigure (own : ℕ → ℕ) (f : ℕ) (figure : Figure) : Type 0 whe
   pub slots : figure.slots ≡ slots_of own f
   pub scaled : IsScaled own f (slots_of own f) figure.scaled
 
--- what an answer says
-abbrev pub figure_said : FigureAnswer → Said Figure
-figure_said (figures.Given figure) = given figure
-figure_said (figures.Refused number) = refused number
-
 -- what an answer about client c is
-abbrev pub IsFigures : Plan → ℕ → FigureAnswer → Type 0
-IsFigures plan c r = Answers (figure_check plan c) (IsFigure (own_of plan c) plan.f) (figure_said r)
+abbrev pub IsFigures : Plan → ℕ → Said Figure → Type 0
+IsFigures plan c = Answers (figure_check plan c) (IsFigure (own_of plan c) plan.f)
 
 -- ---- waits
 
@@ -35,11 +26,6 @@ pub record Waits (own : ℕ → ℕ) (f k wait : ℕ) : Type 0 where
   pub scaled : IsScaled own f (slots_of own f) L
   pub least : IsWait f (slots_of own f) L k wait
 
--- what an answer says
-abbrev pub wait_said : WaitAnswer → Said ℕ
-wait_said (wait.Given slots) = given slots
-wait_said (wait.Refused number) = refused number
-
 -- what an answer about client c and k waiting requests is
-abbrev pub IsWaitFor : Plan → (c k : ℕ) → WaitAnswer → Type 0
-IsWaitFor plan c k r = Answers (wait_check plan c k) (Waits (own_of plan c) plan.f k) (wait_said r)
+abbrev pub IsWaitFor : Plan → (c k : ℕ) → Said ℕ → Type 0
+IsWaitFor plan c k = Answers (wait_check plan c k) (Waits (own_of plan c) plan.f k)

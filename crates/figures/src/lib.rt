@@ -8,7 +8,7 @@ ghost use Rattle.plan.specs.Plan.{default_waiting};
 ghost use Rattle.figures.specs.Figures.{IsFigures, IsWaitFor};
 
 use plan::Plan;
-use records::Outcome;
+use records::refusal::Refusal;
 
 // m, the client's slots in the frame, and L, its scaled latency.
 #[derive(Clone, Copy)]
@@ -17,44 +17,27 @@ pub struct Figure {
     pub scaled: usize,
 }
 
-// A client's figure, or the refusal's number.
-#[derive(Clone, Copy)]
-pub enum FigureAnswer {
-    Given(Figure),
-    Refused(u8),
-}
-
-// A wait in slots, or the refusal's number.
-#[derive(Clone, Copy)]
-pub enum WaitAnswer {
-    Given(usize),
-    Refused(u8),
-}
-
 // The highest waiting number.
 pub const MOST_WAITING: usize = 255;
 
 // The figure of a client: the plan's refusals, then 13 and 14.
-pub fn figure_of(plan: Plan, client: usize) -> FigureAnswer
+#[tactic(auto, unfolding(crate::specs::Check::figure_check))]
+pub fn figure_of(plan: Plan, client: usize) -> Result<Figure, Refusal>
     ensures { IsFigures plan client result }
 {
-    let asked = plan::check_asked(plan, client);
-    if let Outcome::Refused(number, offset) = asked {
-        return FigureAnswer::Refused(number);
-    }
+    plan::check_asked(plan, client)?;
     inner::asked_figure(plan, client)
 }
 
 // The wait of a client for this many waiting requests: the figure's refusals, then 15.
-pub fn wait_for(plan: Plan, client: usize, waiting: usize) -> WaitAnswer
+pub fn wait_for(plan: Plan, client: usize, waiting: usize) -> Result<usize, Refusal>
     ensures { IsWaitFor plan client waiting result }
 {
-    let figures = figure_of(plan, client);
-    inner::wait_from(plan, client, figures, waiting)
+    inner::wait_from(plan, client, figure_of(plan, client), waiting)
 }
 
 // The wait of a client, asked without a number.
-pub fn default_wait(plan: Plan, client: usize) -> WaitAnswer
+pub fn default_wait(plan: Plan, client: usize) -> Result<usize, Refusal>
     ensures { IsWaitFor plan client default_waiting result }
 {
     wait_for(plan, client, Plan::DEFAULT_WAITING)

@@ -4,7 +4,8 @@ use mathlib.Core.Path.{◌≡◌, fun_ext}
 use mathlib.Core.Bool.{false}
 use Prim.Native.Nat.{ℕ, ◌+◌, ◌-◌, ◌≤◌, ◌<◌}
 use native.Mathlib.Omega.{arith}
-use Rattle.records.specs.declared.Outcome.TheVariants.{Fine}
+use Rattle.records.specs.First.{Fine}
+use Rattle.records.specs.Said.{Said}
 use Rattle.records.proofs.Said.{answers_same}
 use Rattle.plan.specs.declared.Client.{Client}
 use Rattle.plan.specs.declared.Plan.{Plan}
@@ -14,10 +15,8 @@ use Rattle.plan.proofs.Laws.{plan_fine, asked_fine, same_check, same_asked, own_
 use Rattle.judge.specs.declared.Verdict.{Verdict}
 use Rattle.judge.specs.declared.Verdict.TheVariants.{Ok, Rate, Late}
 use Rattle.judge.specs.declared.Judgement.{Judgement}
-use Rattle.judge.specs.declared.JudgeAnswer.{JudgeAnswer}
-use Rattle.judge.specs.declared.VerdictAnswer.{VerdictAnswer}
 use Rattle.judge.specs.Rules.{has_rate, IsOk, IsLate, IsVerdict}
-use Rattle.judge.specs.Judge.{AllOk, First, JudgedAs, IsJudgement, judge_said, IsJudged, verdict_said, IsVerdictOf}
+use Rattle.judge.specs.Judge.{AllOk, First, JudgedAs, IsJudgement, IsJudged, IsVerdictOf}
 
 module _ (plan other : Plan) (same : Same plan other) (f> : 0 < plan.f) where
   -- what holds of a client in one plan holds in the other
@@ -49,9 +48,9 @@ module _ (plan other : Plan) (same : Same plan other) (f> : 0 < plan.f) where
       (failure_same from to c l (λ x own f. has_rate x own f ≡ false) h.0, h.1, h.2)
   judgement_same from to l Late c s j h = failure_same from to c l (λ x own f. IsLate x own f s j) h
 
-pub verdicts_same : (plan other : Plan) → Same plan other → (c : ℕ) (r : VerdictAnswer) → IsVerdictOf plan c r
+pub verdicts_same : (plan other : Plan) → Same plan other → (c : ℕ) (r : Said Verdict) → IsVerdictOf plan c r
     → IsVerdictOf other c r
-verdicts_same plan other same c r = answers_same (same_asked plan other same c) by (verdict_said r)
+verdicts_same plan other same c = answers_same (same_asked plan other same c) by
   where
     by : asked_check plan c ≡ Fine → (verdict : Verdict)
         → IsVerdict (client_of plan (c - 1)) (own_of plan c) plan.f verdict
@@ -63,8 +62,8 @@ verdicts_same plan other same c r = answers_same (same_asked plan other same c) 
         let i< : c - 1 < plan.n = omega (arith, asked.1, asked.2) in
         rw place at (client_same plan other same asked.0.bounds.f_low P (c - 1) i< (rw place is))
 
-pub judged_same : (plan other : Plan) → Same plan other → (r : JudgeAnswer) → IsJudged plan r → IsJudged other r
-judged_same plan other same r = answers_same (same_check plan other same) by (judge_said r)
+pub judged_same : (plan other : Plan) → Same plan other → (r : Said Judgement) → IsJudged plan r → IsJudged other r
+judged_same plan other same = answers_same (same_check plan other same) by
   where
     by : plan_check plan ≡ Fine → (found : Judgement) → IsJudgement plan 0 plan.n found
         → IsJudgement other 0 other.n found

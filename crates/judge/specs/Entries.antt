@@ -3,15 +3,12 @@ use Rattle.records.specs.Entry.{Entry, says}
 use Rattle.plan.specs.Plan.{Same}
 use Rattle.plan.specs.Check.{plan_check, asked_check}
 use Rattle.plan.specs.Entries.{plan_numbers, asked_numbers}
-use Rattle.judge.specs.declared.JudgeAnswer.TheVariants as judged
-use Rattle.judge.specs.declared.VerdictAnswer.TheVariants as verdicts
-use Rattle.judge.specs.Judge.{judge_said, IsJudged, verdict_said, IsVerdictOf}
+use Rattle.judge.specs.Judge.{IsJudged, IsVerdictOf}
 
 -- `judge`
 abbrev pub judge_entry : Entry
-judge_entry =
-    says Same (λ plan (x : Unit {0}). IsJudged plan) (λ plan x. plan_check plan) plan_numbers judge_said judged.Refused
+judge_entry = says Same (λ plan (x : Unit {0}). IsJudged plan) (λ plan x. plan_check plan) plan_numbers
 
 -- `verdict_of`
 abbrev pub verdict_entry : Entry
-verdict_entry = says Same IsVerdictOf asked_check asked_numbers verdict_said verdicts.Refused
+verdict_entry = says Same IsVerdictOf asked_check asked_numbers

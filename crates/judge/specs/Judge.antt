@@ -1,17 +1,19 @@
 -- Which plans are accepted, where judging stops, and what is answered (document 01, Judging and searching).
 use Rattle.std.specs.Prelude.{◌≡◌, false, ℕ, ◌+◌, ◌-◌, ◌<◌, ◌≤◌}
-use Rattle.records.specs.Said.{Said, given, refused, Answers}
+use Rattle.records.specs.Said.{Said, Answers}
 use Rattle.plan.specs.declared.Plan.{Plan}
 use Rattle.plan.specs.Plan.{client_of, own_of}
 use Rattle.plan.specs.Check.{plan_check, asked_check}
 use Rattle.judge.specs.declared.Verdict.{Verdict}
 use Rattle.judge.specs.declared.Verdict.TheVariants.{Ok, Rate, Late}
 use Rattle.judge.specs.declared.Judgement.{Judgement}
-use Rattle.judge.specs.declared.JudgeAnswer.{JudgeAnswer}
-use Rattle.judge.specs.declared.JudgeAnswer.TheVariants as judged
-use Rattle.judge.specs.declared.VerdictAnswer.{VerdictAnswer}
-use Rattle.judge.specs.declared.VerdictAnswer.TheVariants as verdicts
 use Rattle.judge.specs.Rules.{has_rate, IsOk, IsLate, IsVerdict}
+
+-- a verdict's number, by which C callers are told it: `ok` 0, `rate` 1, `late` 2
+abbrev pub verdict_number : Verdict → ℕ
+verdict_number Ok = 0
+verdict_number Rate = 1
+verdict_number Late = 2
 
 -- ---- a plan
 
@@ -53,23 +55,12 @@ IsJudgement plan from to r = JudgedAs plan from to r.verdict r.client r.start r.
 abbrev pub acceptance : Judgement
 acceptance = record { client = 0; verdict = Ok; start = 0; length = 0 }
 
--- what an answer says
-abbrev pub judge_said : JudgeAnswer → Said Judgement
-judge_said (judged.Given found) = given found
-judge_said (judged.Refused number) = refused number
-
 -- what judging a plan answers
-abbrev pub IsJudged : Plan → JudgeAnswer → Type 0
-IsJudged plan r = Answers (plan_check plan) (IsJudgement plan 0 plan.n) (judge_said r)
+abbrev pub IsJudged : Plan → Said Judgement → Type 0
+IsJudged plan = Answers (plan_check plan) (IsJudgement plan 0 plan.n)
 
 -- ---- one client
 
--- what an answer says
-abbrev pub verdict_said : VerdictAnswer → Said Verdict
-verdict_said (verdicts.Given verdict) = given verdict
-verdict_said (verdicts.Refused number) = refused number
-
 -- what is answered of client c: the plan's checks, 13, then its verdict; a client without slots has one, too
-abbrev pub IsVerdictOf : Plan → ℕ → VerdictAnswer → Type 0
-IsVerdictOf plan c r =
-    Answers (asked_check plan c) (IsVerdict (client_of plan (c - 1)) (own_of plan c) plan.f) (verdict_said r)
+abbrev pub IsVerdictOf : Plan → ℕ → Said Verdict → Type 0
+IsVerdictOf plan c = Answers (asked_check plan c) (IsVerdict (client_of plan (c - 1)) (own_of plan c) plan.f)

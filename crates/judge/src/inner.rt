@@ -10,28 +10,23 @@ use figures::inner::{owned_by, slots};
 use frame::inner::next;
 use plan::{Client, Plan};
 
-// A product with a number of a client's requirements; x may be such a product already.
-fn times(x: usize, y: u16) -> usize
-    requires { x ≤ 268435456 }
-    ensures { (result ≡ x * y) × (result ≤ x * 65535) }
-{
-    x * (y as usize)
-}
-
 // Enough rate: m × q ≥ p × f.
+#[tactic(auto, unfolding(crate::specs::Rules::enough))]
 fn enough(required: Client, f: usize, m: usize) -> bool
     requires { (f ≤ 64) × (m ≤ 64) }
     ensures { result ≡ enough required f m }
 {
-    times(f, required.p) <= times(m, required.q)
+    usize::from(required.p) * f <= m * usize::from(required.q)
 }
 
 // One stretch in time: j slots, w of them the client's.
+#[tactic(auto, unfolding(crate::specs::Rules::covers))]
 fn covers(required: Client, f: usize, m: usize, j: usize, w: usize) -> bool
     requires { (f ≤ 64) × (m ≤ 64) × (j ≤ 64) × (w ≤ 64) }
     ensures { result ≡ covers required f m j w }
 {
-    times(m * j, required.b) <= times(m, required.a) + times(f * w, required.b)
+    let b = usize::from(required.b);
+    m * j * b <= usize::from(required.a) * m + f * w * b
 }
 
 // The judgement where all clients are ok: no client, no stretch.
@@ -51,42 +46,36 @@ pub fn first_failure(plan: Plan, from: usize, to: usize) -> Judgement
     requires { (1 ≤ plan.f) × (plan.f ≤ 64) × (to ≤ 8) }
     ensures { IsJudgement plan from to result }
 {
-    let f = plan.f;
-    let requirements = plan.clients;
-    let owners = plan.owners;
-    let mut found = acceptance();
     'clients: for i in from..to {
-        let required = requirements[i];
-        let m = slots(plan, i + 1);
-        if !enough(required, f, m) {
-            found = Judgement {
-                client: i + 1,
+        let client = i + 1;
+        let required = plan.clients[i];
+        let m = slots(plan, client);
+        if !enough(required, plan.f, m) {
+            return Judgement {
+                client,
                 verdict: Verdict::Rate,
                 start: 0,
                 length: 0,
             };
-            break 'clients;
         }
-        'starts: for s in 0..f {
+        'starts: for start in 0..plan.f {
             let mut w = 0;
-            let mut at = s;
-            'lengths: for j in 0..f {
-                if !covers(required, f, m, j, w) {
-                    found = Judgement {
-                        client: i + 1,
+            let mut at = start;
+            'lengths: for length in 0..plan.f {
+                if !covers(required, plan.f, m, length, w) {
+                    return Judgement {
+                        client,
                         verdict: Verdict::Late,
-                        start: s,
-                        length: j,
+                        start,
+                        length,
                     };
-                    break 'clients;
                 }
-                let owner = owners[at];
-                w += owned_by(owner, i + 1);
-                at = next(f, at);
+                w += owned_by(plan.owners[at], client);
+                at = next(plan.f, at);
             }
         }
     }
-    found
+    acceptance()
 }
 
 // Where judging clients group by group stops: in the first group, else in the second.
@@ -94,19 +83,17 @@ pub fn earlier(first: Judgement, second: Judgement) -> Judgement
     ensures { (plan : Plan) (from mid to : ℕ) → from ≤ mid → mid ≤ to → IsJudgement plan from mid first
         → IsJudgement plan mid to second → IsJudgement plan from to result }
 {
-    let verdict = first.verdict;
-    match verdict {
+    match first.verdict {
         Verdict::Ok => second,
-        Verdict::Rate => first,
-        Verdict::Late => first,
+        Verdict::Rate | Verdict::Late => first,
     }
 }
 
 // The verdict of one client.
+#[tactic(auto, using(crate::proofs::Laws::verdict_by_lem))]
 pub fn verdict(plan: Plan, client: usize) -> Verdict
     requires { (1 ≤ plan.f) × (plan.f ≤ 64) × (1 ≤ client) × (client ≤ 8) }
     ensures { IsVerdict (client_of plan (client - 1)) (own_of plan client) plan.f result }
 {
-    let found = first_failure(plan, client - 1, client);
-    found.verdict
+    first_failure(plan, client - 1, client).verdict
 }

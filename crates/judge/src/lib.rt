@@ -7,14 +7,14 @@ pub mod inner; // inner.rt
 ghost use Rattle.judge.specs.Judge.{IsJudged, IsVerdictOf};
 
 use plan::{Plan, check_asked};
-use records::Outcome;
+use records::refusal::Refusal;
 
-// What judging says of a client.
+// What judging says of a client, with the number by which C is told.
 #[derive(Clone, Copy)]
 pub enum Verdict {
-    Ok,
-    Rate,
-    Late,
+    Ok = 0,
+    Rate = 1,
+    Late = 2,
 }
 
 // The first client that is not ok, its verdict and, if late, the first stretch that shows it; 0 and Ok where all are.
@@ -26,38 +26,18 @@ pub struct Judgement {
     pub length: usize,
 }
 
-// Where judging a plan stopped, or the refusal's number.
-#[derive(Clone, Copy)]
-pub enum JudgeAnswer {
-    Given(Judgement),
-    Refused(u8),
-}
-
-// A client's verdict, or the refusal's number.
-#[derive(Clone, Copy)]
-pub enum VerdictAnswer {
-    Given(Verdict),
-    Refused(u8),
-}
-
 // Judges a plan: the plan's refusals, then its clients one by one.
-pub fn judge(plan: Plan) -> JudgeAnswer
+pub fn judge(plan: Plan) -> Result<Judgement, Refusal>
     ensures { IsJudged plan result }
 {
-    let checked = plan::check(plan);
-    if let Outcome::Refused(number, offset) = checked {
-        return JudgeAnswer::Refused(number);
-    }
-    JudgeAnswer::Given(inner::first_failure(plan, 0, plan.n))
+    plan::check(plan)?;
+    Ok(inner::first_failure(plan, 0, plan.n))
 }
 
 // The verdict of one client: the plan's refusals, then 13.
-pub fn verdict_of(plan: Plan, client: usize) -> VerdictAnswer
+pub fn verdict_of(plan: Plan, client: usize) -> Result<Verdict, Refusal>
     ensures { IsVerdictOf plan client result }
 {
-    let asked = check_asked(plan, client);
-    if let Outcome::Refused(number, offset) = asked {
-        return VerdictAnswer::Refused(number);
-    }
-    VerdictAnswer::Given(inner::verdict(plan, client))
+    check_asked(plan, client)?;
+    Ok(inner::verdict(plan, client))
 }

@@ -4,14 +4,16 @@
 use mathlib.Core.Path.{◌≡◌, sym, ap, ◌∙◌}
 use mathlib.Core.List.{List}
 use Prim.Native.Nat.{ℕ, ◌+◌}
-use Rattle.records.specs.declared.Outcome.{Outcome}
-use Rattle.records.specs.declared.Outcome.TheVariants.{Fine, Refused}
+use Rattle.std.specs.Prelude.{Result}
+use Rattle.std.specs.declared.result.Result.TheVariants as result
+use Rattle.records.specs.declared.refusal.At.{At}
+use Rattle.records.specs.declared.refusal.Refusal.{Refusal}
+use Rattle.records.specs.Said.{Said}
 use Rattle.plan.specs.declared.Plan.{Plan}
 use Rattle.plan.specs.Plan.{default_waiting}
 use Rattle.text.proofs.Laws.{lines_once}
 use Rattle.stream.specs.Read.{read_of}
-use Rattle.figures.specs.declared.FigureAnswer.{FigureAnswer}
-use Rattle.figures.specs.declared.WaitAnswer.{WaitAnswer}
+use Rattle.figures.specs.declared.Figure.{Figure}
 use Rattle.figures.proofs.Entries.{figure_tight, wait_tight}
 use Rattle.judge.specs.declared.Judgement.{Judgement}
 use Rattle.judge.specs.declared.Verdict.{Verdict}
@@ -20,7 +22,7 @@ use Rattle.listing.specs.declared.Line.{Line}
 use Rattle.listing.specs.Listing.{line_text, closing_text, homing_waiting, homing_line, IsLine, IsReportLine}
 use Rattle.listing.specs.Listing.{IsClosing, IsReportOf, IsHomingLine, IsHomingOf, OrRefusal, IsReport, IsHoming}
 
-line_alike : (c c' : ℕ) (g g' : FigureAnswer) (w w' : WaitAnswer) (v v' : Verdict) → c ≡ c' → g ≡ g'
+line_alike : (c c' : ℕ) (g g' : Said Figure) (w w' : Said ℕ) (v v' : Verdict) → c ≡ c' → g ≡ g'
     → w ≡ w' → v ≡ v' → ◌≡◌ {A = Line} (record { client = c; figures = g; wait = w; verdict = v })
     (record { client = c'; figures = g'; wait = w'; verdict = v' })
 line_alike c c' g g' w w' v v' e f h k = rw (e, f, h, k)
@@ -59,15 +61,13 @@ module _ (plan : Plan) where
   homing_of_once = lines_once (IsHomingLine plan) homing_line_once plan.n
 
 -- the one line of a refused read is one, too
-or_refusal_once : (o : Outcome) (Is : List ℕ → Type 0) → ((a b : List ℕ) → Is a → Is b → a ≡ b) → (a b : List ℕ)
-    → OrRefusal o Is a → OrRefusal o Is b → a ≡ b
-or_refusal_once Fine Is one a b is is' = one a b is is'
-or_refusal_once (Refused number offset) Is one a b is is' = is ∙ sym is'
+or_refusal_once : (Of : Plan → List ℕ → Type 0) → ((plan : Plan) (a b : List ℕ) → Of plan a → Of plan b → a ≡ b)
+    → (r : Result Plan (At Refusal)) (a b : List ℕ) → OrRefusal Of r a → OrRefusal Of r b → a ≡ b
+or_refusal_once Of one (result.Ok plan) a b is is' = one plan a b is is'
+or_refusal_once Of one (result.Err refused) a b is is' = is ∙ sym is'
 
 pub report_once : (s a b : List ℕ) → IsReport s a → IsReport s b → a ≡ b
-report_once s =
-    or_refusal_once (read_of s).outcome (IsReportOf (read_of s).plan) (report_of_once (read_of s).plan)
+report_once s = or_refusal_once IsReportOf report_of_once (read_of s)
 
 pub homing_once : (s a b : List ℕ) → IsHoming s a → IsHoming s b → a ≡ b
-homing_once s =
-    or_refusal_once (read_of s).outcome (IsHomingOf (read_of s).plan) (homing_of_once (read_of s).plan)
+homing_once s = or_refusal_once IsHomingOf homing_of_once (read_of s)

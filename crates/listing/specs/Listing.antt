@@ -1,22 +1,20 @@
 -- The report's and the homing listing's text (document 01, Programs): what the figures, waits and verdicts of a plan's
 -- clients are, their own definitions say; here is how they are written.
-use Rattle.std.specs.Prelude.{◌≡◌, List, ◌++◌, ℕ, ◌+◌}
-use Rattle.records.specs.declared.Outcome.{Outcome}
-use Rattle.records.specs.declared.Outcome.TheVariants as outcome
+use Rattle.std.specs.Prelude.{◌≡◌, List, ◌++◌, ℕ, ◌+◌, Result}
+use Rattle.std.specs.declared.result.Result.TheVariants as result
+use Rattle.records.specs.declared.refusal.At.{At}
+use Rattle.records.specs.declared.refusal.Refusal.{Refusal}
+use Rattle.records.specs.Refusal.{number}
+use Rattle.records.specs.Said.{Said}
 use Rattle.plan.specs.declared.Plan.{Plan}
 use Rattle.plan.specs.Plan.{default_waiting}
 use Rattle.text.specs.Text.{bytes, decimal_of, refusal_line, Lines}
 use Rattle.stream.specs.Read.{read_of}
-use Rattle.figures.specs.declared.FigureAnswer.{FigureAnswer}
-use Rattle.figures.specs.declared.FigureAnswer.TheVariants as figures
-use Rattle.figures.specs.declared.WaitAnswer.{WaitAnswer}
-use Rattle.figures.specs.declared.WaitAnswer.TheVariants as wait
+use Rattle.figures.specs.declared.Figure.{Figure}
 use Rattle.figures.specs.Figures.{IsFigures, IsWaitFor}
 use Rattle.judge.specs.declared.Verdict.{Verdict}
 use Rattle.judge.specs.declared.Verdict.TheVariants.{Ok, Rate, Late}
-use Rattle.judge.specs.declared.VerdictAnswer.TheVariants as verdicts
 use Rattle.judge.specs.declared.Judgement.{Judgement}
-use Rattle.judge.specs.declared.JudgeAnswer.TheVariants as judged
 use Rattle.judge.specs.Judge.{IsJudged, IsVerdictOf}
 use Rattle.listing.specs.declared.Line.{Line}
 
@@ -24,14 +22,14 @@ use Rattle.listing.specs.declared.Line.{Line}
 
 -- m and L; "A client without slots has `-` for L and wait", and its m is 0: a client of a plan that was read has no
 -- other refusal
-unfoldable pub figures_text : FigureAnswer → List ℕ
-figures_text (figures.Given figure) = decimal_of figure.slots ++ bytes " " ++ decimal_of figure.scaled
-figures_text (figures.Refused number) = bytes "0 -"
+unfoldable pub figures_text : Said Figure → List ℕ
+figures_text (result.Ok figure) = decimal_of figure.slots ++ bytes " " ++ decimal_of figure.scaled
+figures_text (result.Err why) = bytes "0 -"
 
 -- the default wait, or `-`
-unfoldable pub wait_text : WaitAnswer → List ℕ
-wait_text (wait.Given slots) = decimal_of slots
-wait_text (wait.Refused number) = bytes "-"
+unfoldable pub wait_text : Said ℕ → List ℕ
+wait_text (result.Ok slots) = decimal_of slots
+wait_text (result.Err why) = bytes "-"
 
 -- a verdict's word
 unfoldable pub verdict_text : Verdict → List ℕ
@@ -56,7 +54,7 @@ pub record IsLine (plan : Plan) (c : ℕ) (line : Line) : Type 0 where
   pub client : line.client ≡ c
   pub figures : IsFigures plan c line.figures
   pub wait : IsWaitFor plan c default_waiting line.wait
-  pub verdict : IsVerdictOf plan c (verdicts.Given line.verdict)
+  pub verdict : IsVerdictOf plan c (result.Ok line.verdict)
 
 -- the line of client i + 1, as text
 pub record IsReportLine (plan : Plan) (i : ℕ) (text : List ℕ) : Type 0 where
@@ -77,7 +75,7 @@ closing_text c Late = refused_text c Late
 -- where judging the plan stopped, as the last line
 pub record IsClosing (plan : Plan) (text : List ℕ) : Type 0 where
   pub found : Judgement
-  pub is : IsJudged plan (judged.Given found)
+  pub is : IsJudged plan (result.Ok found)
   pub whole : text ≡ closing_text found.client found.verdict
 
 -- the header, a line for each client, the last line
@@ -95,12 +93,12 @@ abbrev pub homing_waiting : ℕ
 homing_waiting = default_waiting
 
 -- "only number and default wait .. with `-` as above"
-unfoldable pub homing_line : ℕ → WaitAnswer → List ℕ
+unfoldable pub homing_line : ℕ → Said ℕ → List ℕ
 homing_line c wait = decimal_of c ++ bytes " " ++ wait_text wait ++ bytes "\n"
 
 -- the line of client i + 1
 pub record IsHomingLine (plan : Plan) (i : ℕ) (text : List ℕ) : Type 0 where
-  pub wait : WaitAnswer
+  pub wait : Said ℕ
   pub is : IsWaitFor plan (i + 1) homing_waiting wait
   pub whole : text ≡ homing_line (i + 1) wait
 
@@ -110,15 +108,15 @@ IsHomingOf plan = Lines (IsHomingLine plan) plan.n
 
 -- ---- of a stream
 
--- the text of the plan, or "A refused read writes one line"
-abbrev pub OrRefusal : Outcome → (List ℕ → Type 0) → List ℕ → Type 0
-OrRefusal outcome.Fine Is text = Is text
-OrRefusal (outcome.Refused number offset) Is text = text ≡ refusal_line number offset
+-- the text of the plan that was read, or "A refused read writes one line"
+abbrev pub OrRefusal : (Plan → List ℕ → Type 0) → Result Plan (At Refusal) → List ℕ → Type 0
+OrRefusal Of (result.Ok plan) text = Of plan text
+OrRefusal Of (result.Err refused) text = text ≡ refusal_line (number refused.why) refused.offset
 
 -- "The report reads a plan .. it writes"
 abbrev pub IsReport : List ℕ → List ℕ → Type 0
-IsReport s = OrRefusal (read_of s).outcome (IsReportOf (read_of s).plan)
+IsReport s = OrRefusal IsReportOf (read_of s)
 
 -- "The homing listing reads the same and writes .."
 abbrev pub IsHoming : List ℕ → List ℕ → Type 0
-IsHoming s = OrRefusal (read_of s).outcome (IsHomingOf (read_of s).plan)
+IsHoming s = OrRefusal IsHomingOf (read_of s)

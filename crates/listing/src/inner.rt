@@ -1,150 +1,144 @@
 // The texts of the report and of the homing listing, of a plan that is checked, and their lines. Each is put into a
-// page at a place where there is room for the longest, a whole text at the front; the answer is the place after it. A
-// number takes up to 20 bytes, a verdict up to 4.
+// page that has room for the longest, a whole text at the front. A number takes up to 20 bytes, a verdict up to 4.
 ghost use Rattle.std.specs.Prelude.{◌≡◌, ◌+◌, ◌*◌, ◌≤◌};
-ghost use Rattle.records.specs.Put.{Put};
-ghost use Rattle.records.specs.declared.Outcome.TheVariants.{Fine};
+ghost use Rattle.records.specs.Put.{Adds, HasRoom};
+ghost use Rattle.records.specs.First.{Fine};
 ghost use Rattle.plan.specs.Check.{plan_check, asked_check};
-ghost use Rattle.text.specs.Text.{Lines, Puts, Room, Lendable};
+ghost use Rattle.text.specs.Text.{AddsOne, Lines, Puts, Lendable};
 ghost use Rattle.figures.specs.Figures.{IsWaitFor};
-ghost use Rattle.judge.specs.declared.VerdictAnswer.TheVariants.{Given};
+ghost use Rattle.std.specs.declared.result.Result.TheVariants.{Ok};
 ghost use Rattle.judge.specs.Judge.{IsJudgement, IsVerdictOf};
 ghost use Rattle.listing.specs.Listing.{figures_text, wait_text, verdict_text, line_text, refused_text, closing_text};
 ghost use Rattle.listing.specs.Listing.{homing_line, homing_waiting, IsLine, IsReportLine, IsReportOf, IsHomingOf};
 
-use super::{Line, Listed};
+use super::Line;
+use figures::Figure;
 use figures::inner::{asked_figure, wait_from};
-use figures::{FigureAnswer, WaitAnswer};
 use judge::inner::{acceptance, earlier, first_failure};
 use judge::{Judgement, Verdict};
 use plan::Plan;
+use records::output::Output;
+use records::refusal::Refusal;
 use text::PAGE;
-use text::inner::{put, put_decimal};
+use text::inner::put_decimal;
 
 // A client's m and L: two numbers and a space.
-fn put_figures(out: &mut [u8; PAGE], at: usize, figures: FigureAnswer) -> usize
-    requires { Room at 41 }
-    ensures put { Put out.old at (figures_text figures) out.new result }
-    ensures most { result ≤ at + 41 }
+#[tactic(auto, unfolding(crate::specs::Listing::figures_text))]
+fn put_figures(page: &mut Output, figures: Result<Figure, Refusal>)
+    requires { HasRoom page.old 41 }
+    ensures put { Adds page.old (figures_text figures) page.new }
+    ensures most { page.new.at ≤ page.old.at + 41 }
 {
     match figures {
-        FigureAnswer::Given(figure) => {
-            let at = put_decimal(out, at, figure.slots);
-            let at = put(out, at, b" ");
-            put_decimal(out, at, figure.scaled)
+        Ok(figure) => {
+            put_decimal(page, figure.slots);
+            page.put(b" ");
+            put_decimal(page, figure.scaled);
         },
-        FigureAnswer::Refused(number) => put(out, at, b"0 -"),
+        Err(_) => page.put(b"0 -"),
     }
 }
 
 // A client's wait.
-fn put_wait(out: &mut [u8; PAGE], at: usize, wait: WaitAnswer) -> usize
-    requires { Room at 20 }
-    ensures put { Put out.old at (wait_text wait) out.new result }
-    ensures most { result ≤ at + 20 }
+#[tactic(auto, unfolding(crate::specs::Listing::wait_text))]
+fn put_wait(page: &mut Output, wait: Result<usize, Refusal>)
+    requires { HasRoom page.old 20 }
+    ensures put { Adds page.old (wait_text wait) page.new }
+    ensures most { page.new.at ≤ page.old.at + 20 }
 {
     match wait {
-        WaitAnswer::Given(slots) => put_decimal(out, at, slots),
-        WaitAnswer::Refused(number) => put(out, at, b"-"),
+        Ok(slots) => put_decimal(page, slots),
+        Err(_) => page.put(b"-"),
     }
 }
 
 // A verdict's word.
-fn put_verdict(out: &mut [u8; PAGE], at: usize, verdict: Verdict) -> usize
-    requires { Room at 4 }
-    ensures put { Put out.old at (verdict_text verdict) out.new result }
-    ensures most { result ≤ at + 4 }
+#[tactic(auto, unfolding(crate::specs::Listing::verdict_text))]
+fn put_verdict(page: &mut Output, verdict: Verdict)
+    requires { HasRoom page.old 4 }
+    ensures put { Adds page.old (verdict_text verdict) page.new }
+    ensures most { page.new.at ≤ page.old.at + 4 }
 {
     match verdict {
-        Verdict::Ok => put(out, at, b"ok"),
-        Verdict::Rate => put(out, at, b"rate"),
-        Verdict::Late => put(out, at, b"late"),
+        Verdict::Ok => page.put(b"ok"),
+        Verdict::Rate => page.put(b"rate"),
+        Verdict::Late => page.put(b"late"),
     }
 }
 
 // A line of the report: four numbers, a verdict, four spaces and the line feed.
-fn put_line(out: &mut [u8; PAGE], at: usize, line: Line) -> usize
-    requires { Room at 89 }
-    ensures put { Put out.old at (line_text line) out.new result }
-    ensures most { result ≤ at + 89 }
+fn put_line(page: &mut Output, line: Line)
+    requires { HasRoom page.old 89 }
+    ensures put { Adds page.old (line_text line) page.new }
+    ensures most { page.new.at ≤ page.old.at + 89 }
 {
-    let figures = line.figures;
-    let wait = line.wait;
-    let verdict = line.verdict;
-    let at = put_decimal(out, at, line.client);
-    let at = put(out, at, b" ");
-    let at = put_figures(out, at, figures);
-    let at = put(out, at, b" ");
-    let at = put_wait(out, at, wait);
-    let at = put(out, at, b" ");
-    let at = put_verdict(out, at, verdict);
-    put(out, at, b"\n")
+    put_decimal(page, line.client);
+    page.put(b" ");
+    put_figures(page, line.figures);
+    page.put(b" ");
+    put_wait(page, line.wait);
+    page.put(b" ");
+    put_verdict(page, line.verdict);
+    page.put(b"\n");
 }
 
 // What the report's line of a client with this verdict shows.
 fn line_of(plan: Plan, client: usize, verdict: Verdict) -> Line
-    requires { IsVerdictOf plan client (Given verdict) }
+    requires { IsVerdictOf plan client (Ok verdict) }
     ensures { IsLine plan client result }
 {
     let figures = asked_figure(plan, client);
-    let wait = wait_from(plan, client, figures, Plan::DEFAULT_WAITING);
     Line {
-        client: client,
-        figures: figures,
-        wait: wait,
-        verdict: verdict,
+        client,
+        figures,
+        wait: wait_from(plan, client, figures, Plan::DEFAULT_WAITING),
+        verdict,
     }
 }
 
 // The report's lines, one for each client, at most eight. Each client is judged once, for its line and for the last.
-fn put_lines(out: &mut [u8; PAGE], at: usize, plan: Plan) -> Listed
+#[tactic(auto, using(crate::proofs::Laws::report_lines))]
+fn put_lines(page: &mut Output, plan: Plan) -> Judgement
     requires checked { plan_check plan ≡ Fine }
-    requires room { Room at (8 * 89) }
-    ensures puts { Puts (Lines (IsReportLine plan) plan.n) out.old at out.new result.next }
-    ensures most { result.next ≤ at + 8 * 89 }
-    ensures judgement { IsJudgement plan 0 plan.n result.found }
+    requires room { HasRoom page.old (8 * 89) }
+    ensures puts { AddsOne (Lines (IsReportLine plan) plan.n) page.old page.new }
+    ensures most { page.new.at ≤ page.old.at + 8 * 89 }
+    ensures judgement { IsJudgement plan 0 plan.n result }
 {
-    let n = plan.n;
-    let mut next = at;
     let mut found = acceptance();
-    let mut i = 0;
-    while i < n {
+    for i in 0..plan.n {
         let judged = first_failure(plan, i, i + 1);
-        let verdict = judged.verdict;
-        let line = line_of(plan, i + 1, verdict);
-        next = put_line(out, next, line);
+        let line = line_of(plan, i + 1, judged.verdict);
+        put_line(page, line);
         found = earlier(found, judged);
-        i += 1;
     }
-    Listed {
-        next: next,
-        found: found,
-    }
+    found
 }
 
 // A last line that refuses: `refused`, the client's number and its verdict, two spaces and the line feed.
-fn put_refused(out: &mut [u8; PAGE], at: usize, client: usize, verdict: Verdict) -> usize
-    requires { Room at 34 }
-    ensures put { Put out.old at (refused_text client verdict) out.new result }
-    ensures lendable { Lendable result out.new }
+#[tactic(auto, using(text::proofs::Laws::lendable))]
+fn put_refused(page: &mut Output, client: usize, verdict: Verdict)
+    requires { HasRoom page.old 34 }
+    ensures put { Adds page.old (refused_text client verdict) page.new }
+    ensures lendable { Lendable page.new.at page.new.lent.now }
 {
-    let at = put(out, at, b"refused ");
-    let at = put_decimal(out, at, client);
-    let at = put(out, at, b" ");
-    let at = put_verdict(out, at, verdict);
-    put(out, at, b"\n")
+    page.put(b"refused ");
+    put_decimal(page, client);
+    page.put(b" ");
+    put_verdict(page, verdict);
+    page.put(b"\n");
 }
 
 // The report's last line, from where judging stopped.
-fn put_closing(out: &mut [u8; PAGE], at: usize, found: Judgement) -> usize
-    requires { Room at 34 }
-    ensures put { Put out.old at (closing_text found.client found.verdict) out.new result }
-    ensures lendable { Lendable result out.new }
+#[tactic(auto, using(text::proofs::Laws::lendable), unfolding(crate::specs::Listing::closing_text))]
+fn put_closing(page: &mut Output, found: Judgement)
+    requires { HasRoom page.old 34 }
+    ensures put { Adds page.old (closing_text found.client found.verdict) page.new }
+    ensures lendable { Lendable page.new.at page.new.lent.now }
 {
-    let verdict = found.verdict;
-    match verdict {
-        Verdict::Ok => put(out, at, b"accepted\n"),
-        _ => put_refused(out, at, found.client, verdict),
+    match found.verdict {
+        Verdict::Ok => page.put(b"accepted\n"),
+        _ => put_refused(page, found.client, found.verdict),
     }
 }
 
@@ -154,47 +148,50 @@ pub fn put_report(out: &mut [u8; PAGE], plan: Plan) -> usize
     ensures puts { Puts (IsReportOf plan) out.old 0 out.new result }
     ensures lendable { Lendable result out.new }
 {
-    let at = put(out, 0, b"client slots scaled wait verdict\n");
-    let listed = put_lines(out, at, plan);
-    let found = listed.found;
-    put_closing(out, listed.next, found)
+    let mut page = Output { lent: out, at: 0 };
+    page.put(b"client slots scaled wait verdict\n");
+    let found = put_lines(&mut page, plan);
+    put_closing(&mut page, found);
+    page.at
 }
 
 // The wait that the homing listing shows of a client.
-fn homing_wait(plan: Plan, client: usize) -> WaitAnswer
+fn homing_wait(plan: Plan, client: usize) -> Result<usize, Refusal>
     requires { asked_check plan client ≡ Fine }
     ensures { IsWaitFor plan client homing_waiting result }
 {
-    let figures = asked_figure(plan, client);
-    wait_from(plan, client, figures, Plan::DEFAULT_WAITING)
+    wait_from(
+        plan,
+        client,
+        asked_figure(plan, client),
+        Plan::DEFAULT_WAITING,
+    )
 }
 
 // A line of the homing listing: two numbers, a space and the line feed.
-fn put_homing_line(out: &mut [u8; PAGE], at: usize, client: usize, wait: WaitAnswer) -> usize
-    requires { Room at 42 }
-    ensures put { Put out.old at (homing_line client wait) out.new result }
-    ensures most { result ≤ at + 42 }
-    ensures lendable { Lendable result out.new }
+#[tactic(auto, using(text::proofs::Laws::lendable))]
+fn put_homing_line(page: &mut Output, client: usize, wait: Result<usize, Refusal>)
+    requires { HasRoom page.old 42 }
+    ensures put { Adds page.old (homing_line client wait) page.new }
+    ensures most { page.new.at ≤ page.old.at + 42 }
+    ensures lendable { Lendable page.new.at page.new.lent.now }
 {
-    let at = put_decimal(out, at, client);
-    let at = put(out, at, b" ");
-    let at = put_wait(out, at, wait);
-    put(out, at, b"\n")
+    put_decimal(page, client);
+    page.put(b" ");
+    put_wait(page, wait);
+    page.put(b"\n");
 }
 
 // The homing listing: a line for each client.
+#[tactic(auto, using(crate::proofs::Laws::homing_lines, text::proofs::Laws::lendable))]
 pub fn put_homing(out: &mut [u8; PAGE], plan: Plan) -> usize
     requires { plan_check plan ≡ Fine }
     ensures puts { Puts (IsHomingOf plan) out.old 0 out.new result }
     ensures lendable { Lendable result out.new }
 {
-    let n = plan.n;
-    let mut next = 0;
-    let mut i = 0;
-    while i < n {
-        let wait = homing_wait(plan, i + 1);
-        next = put_homing_line(out, next, i + 1, wait);
-        i += 1;
+    let mut page = Output { lent: out, at: 0 };
+    for i in 0..plan.n {
+        put_homing_line(&mut page, i + 1, homing_wait(plan, i + 1));
     }
-    next
+    page.at
 }

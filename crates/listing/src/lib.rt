@@ -7,51 +7,40 @@ pub mod inner; // inner.rt
 ghost use Rattle.text.specs.Text.{Puts, Lendable};
 ghost use Rattle.listing.specs.Listing.{IsReport, IsHoming};
 
-use figures::{FigureAnswer, WaitAnswer};
-use judge::{Judgement, Verdict};
-use records::Outcome;
+use figures::Figure;
+use judge::Verdict;
+use records::refusal::Refusal;
 use text::PAGE;
 
 // What a line of the report shows.
 #[derive(Clone, Copy)]
 pub struct Line {
     pub client: usize,
-    pub figures: FigureAnswer,
-    pub wait: WaitAnswer,
+    pub figures: Result<Figure, Refusal>,
+    pub wait: Result<usize, Refusal>,
     pub verdict: Verdict,
 }
 
-// The lines put of a report: the place after them, and where judging their clients stopped.
-#[derive(Clone, Copy)]
-pub struct Listed {
-    pub next: usize,
-    pub found: Judgement,
-}
-
 // The report: a header, a line for each client, and whether the plan is accepted.
+#[tactic(auto, using(crate::proofs::Laws::of_reading))]
 pub fn report(s: &[u8], out: &mut [u8; PAGE]) -> usize
     ensures puts { Puts (IsReport s.now) out.old 0 out.new result }
     ensures lendable { Lendable result out.new }
 {
-    let reading = stream::read(s);
-    let outcome = reading.outcome;
-    let plan = reading.plan;
-    if let Outcome::Refused(number, offset) = outcome {
-        return text::put_refusal(out, number, offset);
+    match stream::read(s) {
+        Ok(plan) => inner::put_report(out, plan),
+        Err(refused) => text::put_refusal(out, refused.why.into(), refused.offset),
     }
-    inner::put_report(out, plan)
 }
 
 // The homing listing: each client's number and default wait.
+#[tactic(auto, using(crate::proofs::Laws::of_reading))]
 pub fn homing(s: &[u8], out: &mut [u8; PAGE]) -> usize
     ensures puts { Puts (IsHoming s.now) out.old 0 out.new result }
     ensures lendable { Lendable result out.new }
 {
-    let reading = stream::read(s);
-    let outcome = reading.outcome;
-    let plan = reading.plan;
-    if let Outcome::Refused(number, offset) = outcome {
-        return text::put_refusal(out, number, offset);
+    match stream::read(s) {
+        Ok(plan) => inner::put_homing(out, plan),
+        Err(refused) => text::put_refusal(out, refused.why.into(), refused.offset),
     }
-    inner::put_homing(out, plan)
 }

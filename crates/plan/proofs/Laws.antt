@@ -10,17 +10,16 @@ use native.Mathlib.Omega.{arith}
 use lib.Dec.{eqb}
 use lib.ListN.{get_or}
 use borrow.Author.Tests.{leb-true, le-leb, lt-leb, eq-eqb, ne_eqb}
-use Rattle.records.specs.Refusal as refusal
-use Rattle.records.specs.First.{or_else}
-use Rattle.records.specs.declared.Outcome.TheVariants.{Fine}
+use Rattle.records.specs.declared.refusal.Refusal.TheVariants as refusal
+use Rattle.records.specs.First.{or_else, Fine}
 use Rattle.records.proofs.Checks.{between_true, both_fine, unless_fine, range_fine, range_pass, first_fine, first_all}
 use Rattle.records.proofs.Checks.{first_same, one_or_none, below_or_not}
 use Rattle.records.proofs.Lists.{get_padded, padded_same}
 use Rattle.plan.specs.declared.Client.{Client}
 use Rattle.plan.specs.declared.Plan.{Plan}
 use Rattle.plan.specs.Plan.{no_client, client_of, owner_of, is_client, own_in, own_of, Same, SameRequired, used}
-use Rattle.plan.specs.Check.{client_check, owner_check, client_check_of, requirements_check}
-use Rattle.plan.specs.Check.{owner_check_of, owners_check, plan_check, asked_check}
+use Rattle.plan.specs.Check.{client_check, owner_check, client_check_of, requirements_check, owner_check_of}
+use Rattle.plan.specs.Check.{owners_check, plan_check, asked_check}
 
 -- ---- one check
 
@@ -87,8 +86,8 @@ unfolding requirements_check client_check_of
 requirements_fine plan h =
     let a = both_fine _ _ h in
     let b = both_fine _ _ a.1 in
-    let f = range_fine plan.f 64 refusal.frame a.0 in
-    let n = range_fine plan.n 8 refusal.count b.0 in
+    let f = range_fine plan.f 64 refusal.Frame a.0 in
+    let n = range_fine plan.n 8 refusal.Count b.0 in
     record {
       f_low = f.0;
       f_high = f.1;
@@ -101,8 +100,8 @@ pub requirements_pass : (plan : Plan) → InBounds plan → requirements_check p
 unfolding requirements_check client_check_of
 requirements_pass plan b =
     rw (
-      range_pass plan.f 64 refusal.frame b.f_low b.f_high,
-      range_pass plan.n 8 refusal.count b.n_low b.n_high,
+      range_pass plan.f 64 refusal.Frame b.f_low b.f_high,
+      range_pass plan.n 8 refusal.Count b.n_low b.n_high,
     )
     (first_all (client_check_of plan) plan.n (λ i l. client_pass (client_of plan i) 0 (b.required i l)))
 
@@ -126,12 +125,12 @@ pub asked_fine : (plan : Plan) (c : ℕ) → asked_check plan c ≡ Fine → Che
 unfolding asked_check
 asked_fine plan c h =
     let a = both_fine _ _ h in
-    let r = range_fine c plan.n refusal.asked a.1 in
+    let r = range_fine c plan.n refusal.Asked a.1 in
     (plan_fine plan a.0, r.0, r.1)
 
 pub asked_pass : (plan : Plan) (c : ℕ) → Checked plan → 1 ≤ c → c ≤ plan.n → asked_check plan c ≡ Fine
 unfolding asked_check
-asked_pass plan c ok low high = rw (plan_pass plan ok) (range_pass c plan.n refusal.asked low high)
+asked_pass plan c ok low high = rw (plan_pass plan ok) (range_pass c plan.n refusal.Asked low high)
 
 -- ---- plans that are the same
 

@@ -5,10 +5,10 @@ use mathlib.Core.Bool.{true}
 use mathlib.Core.List.{List, [], ◌∷◌}
 use Prim.Native.Nat.{ℕ, ◌≤◌}
 use lib.Dec.{leb}
-use Rattle.records.specs.Refusal as refusal
-use Rattle.records.specs.First.{between, unless, range_check, or_else, first_of, offset_of, among, Gives}
-use Rattle.records.specs.declared.Outcome.{Outcome}
-use Rattle.records.specs.declared.Outcome.TheVariants.{Fine}
+use Rattle.records.specs.declared.refusal.Refusal.TheVariants as refusal
+use Rattle.records.specs.Refusal.{number}
+use Rattle.records.specs.First.{between, unless, range_check, or_else, first_of, offset_of, among, Gives, Outcome}
+use Rattle.records.specs.First.{Fine}
 use Rattle.records.proofs.Refusals.{or_each, first_each, unless_gives, range_gives, or_gives, first_gives}
 use Rattle.records.proofs.Refusals.{unless_within, unless_offset, range_offset}
 use Rattle.plan.specs.declared.Client.{Client}
@@ -38,25 +38,25 @@ plan_each P z owner plan requirements =
 
 -- ---- numbers
 
-pub client_gives : (ks : List ℕ) (c : Client) (offset : ℕ) → among refusal.rate ks ≡ true
-    → among refusal.latency ks ≡ true → Gives ks (client_check c offset)
+pub client_gives : (ks : List ℕ) (c : Client) (offset : ℕ) → among (number refusal.Rate) ks ≡ true
+    → among (number refusal.Latency) ks ≡ true → Gives ks (client_check c offset)
 unfolding client_check
 client_gives ks c offset rate latency =
     or_each (Gives ks)
-    (unless (between 1 c.p c.q) refusal.rate offset) (unless (leb 1 c.b) refusal.latency offset)
-    (unless_gives ks (between 1 c.p c.q) refusal.rate offset rate)
-    (unless_gives ks (leb 1 c.b) refusal.latency offset latency)
+    (unless (between 1 c.p c.q) refusal.Rate offset) (unless (leb 1 c.b) refusal.Latency offset)
+    (unless_gives ks (between 1 c.p c.q) refusal.Rate offset rate)
+    (unless_gives ks (leb 1 c.b) refusal.Latency offset latency)
 
-pub owner_gives : (ks : List ℕ) (owner n offset : ℕ) → among refusal.owner ks ≡ true
+pub owner_gives : (ks : List ℕ) (owner n offset : ℕ) → among (number refusal.Owner) ks ≡ true
     → Gives ks (owner_check owner n offset)
 unfolding owner_check
-owner_gives ks owner n offset h = unless_gives ks (leb owner n) refusal.owner offset h
+owner_gives ks owner n offset h = unless_gives ks (leb owner n) refusal.Owner offset h
 
 pub requirements_gives : (plan : Plan) → Gives requirements_numbers (requirements_check plan)
 requirements_gives =
     let ks : List ℕ = requirements_numbers in
-    requirements_each (Gives ks) tt (λ f. range_gives ks f 64 refusal.frame refl)
-    (λ n. range_gives ks n 8 refusal.count refl) (λ c. client_gives ks c 0 refl refl)
+    requirements_each (Gives ks) tt (λ f. range_gives ks f 64 refusal.Frame refl)
+    (λ n. range_gives ks n 8 refusal.Count refl) (λ c. client_gives ks c 0 refl refl)
 
 pub plan_gives : (plan : Plan) → Gives plan_numbers (plan_check plan)
 unfolding plan_check owners_check owner_check_of
@@ -69,8 +69,8 @@ pub asked_gives : (plan : Plan) (c : ℕ) → Gives asked_numbers (asked_check p
 unfolding asked_check
 asked_gives plan c =
     let ks : List ℕ = 13 ∷ [] in
-    or_gives plan_numbers ks (plan_check plan) (range_check c plan.n refusal.asked) (plan_gives plan)
-    (range_gives ks c plan.n refusal.asked refl)
+    or_gives plan_numbers ks (plan_check plan) (range_check c plan.n refusal.Asked) (plan_gives plan)
+    (range_gives ks c plan.n refusal.Asked refl)
 
 -- ---- offsets
 
@@ -78,13 +78,13 @@ pub client_within : (most : ℕ) (c : Client) (offset : ℕ) → offset ≤ most
 unfolding client_check
 client_within most c offset h =
     or_each (λ (o : Outcome). offset_of o ≤ most)
-    (unless (between 1 c.p c.q) refusal.rate offset) (unless (leb 1 c.b) refusal.latency offset)
-    (unless_within most (between 1 c.p c.q) refusal.rate offset h)
-    (unless_within most (leb 1 c.b) refusal.latency offset h)
+    (unless (between 1 c.p c.q) refusal.Rate offset) (unless (leb 1 c.b) refusal.Latency offset)
+    (unless_within most (between 1 c.p c.q) refusal.Rate offset h)
+    (unless_within most (leb 1 c.b) refusal.Latency offset h)
 
 pub owner_within : (most owner n offset : ℕ) → offset ≤ most → offset_of (owner_check owner n offset) ≤ most
 unfolding owner_check
-owner_within most owner n offset h = unless_within most (leb owner n) refusal.owner offset h
+owner_within most owner n offset h = unless_within most (leb owner n) refusal.Owner offset h
 
 -- the offset outside reading
 abbrev NoOffset : Outcome → Type 0
@@ -94,20 +94,20 @@ pub requirements_offset : (plan : Plan) → offset_of (requirements_check plan) 
 unfolding client_check
 requirements_offset =
     requirements_each NoOffset refl
-    (λ f. range_offset f 64 refusal.frame)
-    (λ n. range_offset n 8 refusal.count)
+    (λ f. range_offset f 64 refusal.Frame)
+    (λ n. range_offset n 8 refusal.Count)
     (λ c.
     or_each NoOffset
-    (unless (between 1 c.p c.q) refusal.rate 0) (unless (leb 1 c.b) refusal.latency 0)
-    (unless_offset (between 1 c.p c.q) refusal.rate) (unless_offset (leb 1 c.b) refusal.latency))
+    (unless (between 1 c.p c.q) refusal.Rate 0) (unless (leb 1 c.b) refusal.Latency 0)
+    (unless_offset (between 1 c.p c.q) refusal.Rate) (unless_offset (leb 1 c.b) refusal.Latency))
 
 pub plan_offset : (plan : Plan) → offset_of (plan_check plan) ≡ 0
 unfolding owner_check
 plan_offset plan =
-    plan_each NoOffset refl (λ owner n. unless_offset (leb owner n) refusal.owner) plan (requirements_offset plan)
+    plan_each NoOffset refl (λ owner n. unless_offset (leb owner n) refusal.Owner) plan (requirements_offset plan)
 
 pub asked_offset : (plan : Plan) (c : ℕ) → offset_of (asked_check plan c) ≡ 0
 unfolding asked_check
 asked_offset plan c =
-    or_each NoOffset (plan_check plan) (range_check c plan.n refusal.asked) (plan_offset plan)
-    (range_offset c plan.n refusal.asked)
+    or_each NoOffset (plan_check plan) (range_check c plan.n refusal.Asked) (plan_offset plan)
+    (range_offset c plan.n refusal.Asked)

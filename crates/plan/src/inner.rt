@@ -4,83 +4,66 @@ ghost use Rattle.records.specs.First.{first_of};
 ghost use Rattle.plan.specs.Check.{frame_check, count_check, client_check, owner_check, client_check_of, owners_check};
 
 use super::{Client, Plan};
-use records::{Outcome, check_range, refusal, wide};
+use records::refusal::{Refusal, Refused};
+use records::{check_range, wide};
 
 // 5: f is 1 to 64.
-pub fn check_frame(f: usize) -> Outcome
+pub fn check_frame(f: usize) -> Result<(), Refused>
     ensures { result ≡ frame_check f }
 {
-    check_range(f, 64, refusal::FRAME)
+    check_range(f, 64, Refusal::Frame)
 }
 
 // 6: n is 1 to 8.
-pub fn check_count(n: usize) -> Outcome
+pub fn check_count(n: usize) -> Result<(), Refused>
     ensures { result ≡ count_check n }
 {
-    check_range(n, 8, refusal::COUNT)
+    check_range(n, 8, Refusal::Count)
 }
 
 // 8, then 9: p is 1 to q, and b is not 0.
-pub fn check_client(client: Client, offset: usize) -> Outcome
+#[tactic(auto, unfolding(crate::specs::Check::client_check))]
+pub fn check_client(client: Client, offset: usize) -> Result<(), Refused>
     ensures { result ≡ client_check client offset }
 {
-    if client.p < 1 {
-        return Outcome::Refused(refusal::RATE, offset);
-    }
-    if client.q < client.p {
-        return Outcome::Refused(refusal::RATE, offset);
+    if client.p < 1 || client.q < client.p {
+        return Err(Refusal::Rate.at(offset));
     }
     if client.b < 1 {
-        return Outcome::Refused(refusal::LATENCY, offset);
+        return Err(Refusal::Latency.at(offset));
     }
-    Outcome::Fine
+    Ok(())
 }
 
 // 10: an owner is 0 to n.
-pub fn check_owner(owner: u8, n: usize, offset: usize) -> Outcome
+#[tactic(auto, unfolding(crate::specs::Check::owner_check))]
+pub fn check_owner(owner: u8, n: usize, offset: usize) -> Result<(), Refused>
     ensures { result ≡ owner_check owner n offset }
 {
     if n < wide(owner) {
-        return Outcome::Refused(refusal::OWNER, offset);
+        return Err(Refusal::Owner.at(offset));
     }
-    Outcome::Fine
+    Ok(())
 }
 
 // 8 and 9, client by client.
-pub fn check_clients(plan: Plan) -> Outcome
+pub fn check_clients(plan: Plan) -> Result<(), Refused>
     requires { plan.n ≤ 8 }
     ensures { result ≡ first_of (client_check_of plan) plan.n }
 {
-    let n = plan.n;
-    let clients = plan.clients;
-    let mut i = 0;
-    while i < n {
-        let client = clients[i];
-        let outcome = check_client(client, 0);
-        if let Outcome::Refused(number, offset) = outcome {
-            return Outcome::Refused(number, offset);
-        }
-        i += 1;
+    for &client in &plan.clients[..plan.n] {
+        check_client(client, 0)?;
     }
-    Outcome::Fine
+    Ok(())
 }
 
 // 10, slot by slot.
-pub fn check_owners(plan: Plan) -> Outcome
+pub fn check_owners(plan: Plan) -> Result<(), Refused>
     requires { plan.f ≤ 64 }
     ensures { result ≡ owners_check plan }
 {
-    let f = plan.f;
-    let n = plan.n;
-    let owners = plan.owners;
-    let mut x = 0;
-    while x < f {
-        let owner = owners[x];
-        let outcome = check_owner(owner, n, 0);
-        if let Outcome::Refused(number, offset) = outcome {
-            return Outcome::Refused(number, offset);
-        }
-        x += 1;
+    for &owner in &plan.owners[..plan.f] {
+        check_owner(owner, plan.n, 0)?;
     }
-    Outcome::Fine
+    Ok(())
 }

@@ -9,7 +9,8 @@ ghost use Rattle.std.specs.Prelude.{◌≡◌};
 ghost use Rattle.plan.specs.Plan.{no_client, no_plan, with_table};
 ghost use Rattle.plan.specs.Check.{requirements_check, plan_check, asked_check};
 
-use records::{Outcome, check_range, or_else, refusal};
+use records::refusal::{Refusal, Refused};
+use records::{check_range, or_else};
 
 // What a client requires: the rate p/q, the latency a/b in slots.
 #[derive(Clone, Copy)]
@@ -62,46 +63,32 @@ pub fn no_plan() -> Plan
 pub fn with_table(plan: Plan, owners: [u8; 64]) -> Plan
     ensures { result ≡ with_table plan owners }
 {
-    let clients = plan.clients;
-    Plan {
-        f: plan.f,
-        n: plan.n,
-        clients: clients,
-        owners: owners,
-    }
+    Plan { owners, ..plan }
 }
 
 // f, n and the clients' requirements: 5, 6, then 8 and 9 client by client. No owner is read.
-pub fn check_requirements(plan: Plan) -> Outcome
+#[tactic(auto, unfolding(crate::specs::Check::requirements_check))]
+pub fn check_requirements(plan: Plan) -> Result<(), Refused>
     ensures { result ≡ requirements_check plan }
 {
-    let frame = inner::check_frame(plan.f);
-    if let Outcome::Refused(number, offset) = frame {
-        return Outcome::Refused(number, offset);
-    }
-    let count = inner::check_count(plan.n);
-    if let Outcome::Refused(number, offset) = count {
-        return Outcome::Refused(number, offset);
-    }
+    inner::check_frame(plan.f)?;
+    inner::check_count(plan.n)?;
     inner::check_clients(plan)
 }
 
 // The whole plan: its requirements, then 10 slot by slot.
-pub fn check(plan: Plan) -> Outcome
+#[tactic(auto, unfolding(crate::specs::Check::plan_check))]
+pub fn check(plan: Plan) -> Result<(), Refused>
     ensures { result ≡ plan_check plan }
 {
-    let requirements = check_requirements(plan);
-    if let Outcome::Refused(number, offset) = requirements {
-        return Outcome::Refused(number, offset);
-    }
+    check_requirements(plan)?;
     inner::check_owners(plan)
 }
 
 // A question about a client: the plan's checks, then 13.
-pub fn check_asked(plan: Plan, client: usize) -> Outcome
+#[tactic(auto, unfolding(crate::specs::Check::asked_check))]
+pub fn check_asked(plan: Plan, client: usize) -> Result<(), Refused>
     ensures { result ≡ asked_check plan client }
 {
-    let checked = check(plan);
-    let asked = check_range(client, plan.n, refusal::ASKED);
-    or_else(checked, asked)
+    or_else(check(plan), check_range(client, plan.n, Refusal::Asked))
 }

@@ -13,9 +13,12 @@ use lib.Dec.{leb}
 use lib.ListN.{take}
 use lib.Seq.{get_or-take}
 use borrow.Author.Tests.{le-leb, lt-leb}
+use Rattle.records.specs.Said.{Said}
+use Rattle.std.specs.declared.result.Result.TheVariants as result
 use Rattle.frame.specs.Frame.{slots_of, IsScaled}
 use Rattle.frame.specs.Largest.{scaled_of}
 use Rattle.frame.proofs.Scaled.{scaled_is}
+use Rattle.std.specs.Prelude.{Option, Some, None}
 use Rattle.records.proofs.Checks.{false_true, refused_fine}
 use Rattle.plan.specs.declared.Client.{Client}
 use Rattle.plan.specs.declared.Plan.{Plan}
@@ -23,15 +26,11 @@ use Rattle.plan.specs.Plan.{client_of, own_of, with_table}
 use Rattle.plan.proofs.Laws.{Checked, requirements_fine, requirements_pass, requirements_same, plan_fine, plan_pass}
 use Rattle.plan.proofs.Laws.{asked_fine, asked_pass}
 use Rattle.figures.specs.declared.Figure.{Figure}
-use Rattle.figures.specs.declared.FigureAnswer.TheVariants as figures
 use Rattle.figures.specs.Figures.{IsFigures}
 use Rattle.figures.proofs.Laws.{frame_of}
-use Rattle.judge.specs.declared.JudgeAnswer.{JudgeAnswer}
-use Rattle.judge.specs.declared.JudgeAnswer.TheVariants as judged
 use Rattle.judge.specs.declared.Judgement.{Judgement}
 use Rattle.judge.specs.declared.Verdict.{Verdict}
 use Rattle.judge.specs.declared.Verdict.TheVariants.{Ok, Rate, Late}
-use Rattle.judge.specs.declared.VerdictAnswer.TheVariants as verdicts
 use Rattle.judge.specs.Rules.{enough, has_rate, IsLate, IsVerdict}
 use Rattle.judge.specs.Judge.{ClientOk, Accepted, JudgedAs, IsJudged, acceptance, IsVerdictOf}
 use Rattle.judge.proofs.Laws.{rate_true, rate_pass, rate_owns, late_start, late_length, in_time_by_scaled}
@@ -39,10 +38,7 @@ use Rattle.judge.proofs.Laws.{scaled_by_in_time}
 use Rattle.judge.proofs.Once.{judgement_one}
 use Rattle.judge.proofs.Entries.{judge_tight}
 use Rattle.explore.specs.Best.{Table, owned, LexLe, NoTable}
-use Rattle.search.specs.declared.SearchAnswer.{SearchAnswer}
-use Rattle.search.specs.declared.SearchAnswer.TheVariants as finding
-use Rattle.search.specs.declared.Searched.{Searched}
-use Rattle.search.specs.Search.{idle_plan, search_check, AcceptedIn, SearchedAs, IsSearched}
+use Rattle.search.specs.Search.{idle_plan, search_check, AcceptedIn, IsSearched}
 use Rattle.search.proofs.Questions.{Searchable, search_fine, search_pass}
 use Rattle.search.proofs.Same.{accepted_front}
 use Rattle.arbiter.specs.Run.{SatisfiesOf}
@@ -117,7 +113,7 @@ accepted_by_definition plan ok =
     (λ accepted i l. (by i l).0 (exactly.0 accepted i l), λ meets. exactly.1 (λ i l. (by i l).1 (meets i l)))
 
 -- and that is what `judge` says
-pub judge_accepts : (plan : Plan) (found : Judgement) → IsJudged plan (judged.Given found)
+pub judge_accepts : (plan : Plan) (found : Judgement) → IsJudged plan (result.Ok found)
     → (found.verdict ≡ Ok) ↔ Accepted plan
 judge_accepts plan found is = (by found.verdict is.1, back)
   where
@@ -132,25 +128,25 @@ judge_accepts plan found is = (by found.verdict is.1, back)
 -- ---- what is named
 
 -- a client of the plan, with the verdict that it has by itself: the report's rows and its last line agree
-pub judge_verdict : (plan : Plan) (found : Judgement) → IsJudged plan (judged.Given found)
-    → (found.verdict ≡ Ok → ⊥) → IsVerdictOf plan found.client (verdicts.Given found.verdict)
+pub judge_verdict : (plan : Plan) (found : Judgement) → IsJudged plan (result.Ok found)
+    → (found.verdict ≡ Ok → ⊥) → IsVerdictOf plan found.client (result.Ok found.verdict)
 judge_verdict plan found is = by found.verdict is.1
   where
     there : (c place : ℕ) → c ≡ place + 1 → place < plan.n → (v : Verdict)
-        → IsVerdict (client_of plan place) (own_of plan (place + 1)) plan.f v → IsVerdictOf plan c (verdicts.Given v)
+        → IsVerdict (client_of plan place) (own_of plan (place + 1)) plan.f v → IsVerdictOf plan c (result.Ok v)
     there c place e l v holds =
         let at : c - 1 ≡ place = omega arith in
         (asked_pass plan c (plan_fine plan is.0) (omega arith) (omega arith), rw (at, e) holds)
 
     by : (v : Verdict) → JudgedAs plan 0 plan.n v found.client found.start found.length → (v ≡ Ok → ⊥)
-        → IsVerdictOf plan found.client (verdicts.Given v)
+        → IsVerdictOf plan found.client (result.Ok v)
     by Ok x other = absurd (other refl)
     by Rate x other = there _ x.0.place x.0.client x.0.high Rate x.0.fails
     by Late x other = there _ x.place x.client x.high Late (found.start, found.length, x.fails)
 
 -- accepted exactly when every client, asked by itself, is ok
 pub accepted_verdicts : (plan : Plan) → Checked plan
-    → Accepted plan ↔ ((c : ℕ) → 1 ≤ c → c ≤ plan.n → IsVerdictOf plan c (verdicts.Given Ok))
+    → Accepted plan ↔ ((c : ℕ) → 1 ≤ c → c ≤ plan.n → IsVerdictOf plan c (result.Ok Ok))
 accepted_verdicts plan ok = (
   λ accepted c low high.
       let place : c - 1 + 1 ≡ c = omega arith in
@@ -165,7 +161,7 @@ accepted_verdicts plan ok = (
 )
 
 -- "and, if `late`, that stretch's start and length": a stretch that starts in the frame and is shorter than it
-pub late_in_frame : (plan : Plan) (found : Judgement) → IsJudged plan (judged.Given found) → found.verdict ≡ Late
+pub late_in_frame : (plan : Plan) (found : Judgement) → IsJudged plan (result.Ok found) → found.verdict ≡ Late
     → (found.start < plan.f) × (found.length < plan.f)
 late_in_frame plan found is = by found.verdict is.1
   where
@@ -206,15 +202,15 @@ module _ (plan : Plan) (c : ℕ) where
   verdict_by_scaled L scaled Late h = rw (h.2.rate, late_by L h.0 h.1 scaled h.2)
 
   -- the verdict given is the one that the figures given say
-  pub verdict_figures : (verdict : Verdict) (figure : Figure) → IsVerdictOf plan c (verdicts.Given verdict)
-      → IsFigures plan c (figures.Given figure)
+  pub verdict_figures : (verdict : Verdict) (figure : Figure) → IsVerdictOf plan c (result.Ok verdict)
+      → IsFigures plan c (result.Ok figure)
       → verdict ≡ verdict_by (client_of plan (c - 1)) plan.f figure.slots figure.scaled
   unfolding x m
   verdict_figures verdict figure is given =
       rw given.1.slots (verdict_by_scaled figure.scaled given.1.scaled verdict is.1)
 
   -- a client without slots, who has no figures, has the verdict `rate`
-  pub no_slots_rate : (verdict : Verdict) → IsVerdictOf plan c (verdicts.Given verdict)
+  pub no_slots_rate : (verdict : Verdict) → IsVerdictOf plan c (result.Ok verdict)
       → slots_of (own_of plan c) plan.f ≡ 0 → verdict ≡ Rate
   unfolding x
   no_slots_rate verdict is none = by verdict is.1
@@ -233,66 +229,56 @@ module _ (plan : Plan) (c : ℕ) where
 
 -- ---- the search
 
-module _ (f n : ℕ) (clients : List Client) (r : Searched) (is : IsSearched (idle_plan f n clients) r) where
-  -- the plan with the table found
-  pub found_plan : Plan
-  found_plan = with_table (idle_plan f n clients) r.owners
+module _ (f n : ℕ) (clients : List Client) (r : Said (Option (List ℕ)))
+    (is : IsSearched (idle_plan f n clients) r) where
+  module _ (owners : List ℕ) (found : r ≡ result.Ok (Some owners)) where
+    -- the plan with the table found
+    pub found_plan : Plan
+    found_plan = with_table (idle_plan f n clients) owners
 
-  is_found : r.answer ≡ finding.Found → SearchedAs (idle_plan f n clients) finding.Found r.owners
-  is_found e = by r.answer is e
-    where
-      by : (a : SearchAnswer) → SearchedAs (idle_plan f n clients) a r.owners → a ≡ finding.Found
-          → SearchedAs (idle_plan f n clients) finding.Found r.owners
-      by a h e = rw e at h
+    is_found : IsSearched (idle_plan f n clients) (result.Ok (Some owners))
+    is_found = rw found at is
 
-  -- "The search .. gives an accepted table": a plan that `judge` accepts
-  pub found_accepted : r.answer ≡ finding.Found → Accepted found_plan
-  unfolding found_plan
-  found_accepted e =
-      let h = is_found e in
-      let bounds = (search_fine (idle_plan f n clients) h.0).bounds in
-      accepted_front (idle_plan f n clients) r.owners bounds.f_low h.1.0.good
+    -- "The search .. gives an accepted table": a plan that `judge` accepts
+    pub found_accepted : Accepted found_plan
+    unfolding found_plan
+    found_accepted =
+        let bounds = (search_fine (idle_plan f n clients) is_found.0).bounds in
+        accepted_front (idle_plan f n clients) owners bounds.f_low is_found.1.0.good
 
-  found_checked : r.answer ≡ finding.Found → Checked found_plan
-  unfolding found_plan
-  found_checked e =
-      let h = is_found e in
-      let plan = idle_plan f n clients in
-      let same = requirements_same plan found_plan (record { frame = refl; count = refl; clients = λ i l. refl }) in
-      let fine = requirements_pass plan (search_fine plan h.0).bounds in
-      record {
-        bounds = requirements_fine found_plan (sym same ∙ fine);
-        owned = λ x l. rw (get_or-take f r.owners x 0 l) at (h.1.0.table.most x);
-      }
+    found_checked : Checked found_plan
+    unfolding found_plan
+    found_checked =
+        let plan = idle_plan f n clients in
+        let same = requirements_same plan found_plan (record { frame = refl; count = refl; clients = λ i l. refl }) in
+        let fine = requirements_pass plan (search_fine plan is_found.0).bounds in
+        record {
+          bounds = requirements_fine found_plan (sym same ∙ fine);
+          owned = λ x l. rw (get_or-take f owners x 0 l) at (is_found.1.0.table.most x);
+        }
 
-  pub found_judged : r.answer ≡ finding.Found → (j : JudgeAnswer) → IsJudged found_plan j → j ≡ judged.Given acceptance
-  unfolding found_plan
-  found_judged e j judges =
-      let fine = plan_pass found_plan (found_checked e) in
-      judge_tight.once found_plan tt j (judged.Given acceptance) judges (fine, (found_accepted e, refl, refl, refl))
+    pub found_judged : (j : Said Judgement) → IsJudged found_plan j → j ≡ result.Ok acceptance
+    unfolding found_plan
+    found_judged j judges =
+        let fine = plan_pass found_plan found_checked in
+        judge_tight.once found_plan tt j (result.Ok acceptance) judges (fine, (found_accepted, refl, refl, refl))
 
-  -- "with the fewest owned slots", and "among those the least": of all tables that `judge` accepts
-  pub found_best : r.answer ≡ finding.Found → (u : List ℕ) → Table f n u
-      → IsJudged (with_table (idle_plan f n clients) u) (judged.Given acceptance)
-      → (owned (take f r.owners) ≤ owned u) × (owned u ≡ owned (take f r.owners) → LexLe (take f r.owners) u)
-  found_best e u table judges =
-      let best = (is_found e).1.0 in
-      (best.fewest u table judges.1.0, best.least u table judges.1.0)
+    -- "with the fewest owned slots", and "among those the least": of all tables that `judge` accepts
+    pub found_best : (u : List ℕ) → Table f n u
+        → IsJudged (with_table (idle_plan f n clients) u) (result.Ok acceptance)
+        → (owned (take f owners) ≤ owned u) × (owned u ≡ owned (take f owners) → LexLe (take f owners) u)
+    found_best u table judges =
+        let best = is_found.1.0 in
+        (best.fewest u table judges.1.0, best.least u table judges.1.0)
 
   -- "and says there is none exactly when none exists"
   pub none_exactly : Searchable (idle_plan f n clients)
-      → (r.answer ≡ finding.None) ↔ NoTable (AcceptedIn (idle_plan f n clients)) f n
-  none_exactly ok = (there r.answer is, back r.answer is)
+      → (r ≡ result.Ok None) ↔ NoTable (AcceptedIn (idle_plan f n clients)) f n
+  none_exactly ok = (λ e. (rw e at is).1, back r is)
     where
-      there : (a : SearchAnswer) → SearchedAs (idle_plan f n clients) a r.owners → a ≡ finding.None
-          → NoTable (AcceptedIn (idle_plan f n clients)) f n
-      there a h e =
-          let none : SearchedAs (idle_plan f n clients) finding.None r.owners = rw e at h in
-          none.1.0
-
-      back : (a : SearchAnswer) → SearchedAs (idle_plan f n clients) a r.owners
-          → NoTable (AcceptedIn (idle_plan f n clients)) f n → a ≡ finding.None
-      back finding.Found h none = absurd (none _ h.1.0.table h.1.0.good)
-      back finding.None h none = refl
-      back (finding.Refused k) h none =
-          refused_fine (search_check (idle_plan f n clients)) k h.0 (search_pass (idle_plan f n clients) ok)
+      back : (a : Said (Option (List ℕ))) → IsSearched (idle_plan f n clients) a
+          → NoTable (AcceptedIn (idle_plan f n clients)) f n → a ≡ result.Ok None
+      back (result.Ok (Some owners)) h none = absurd (none _ h.1.0.table h.1.0.good)
+      back (result.Ok None) h none = refl
+      back (result.Err why) h none =
+          refused_fine (search_check (idle_plan f n clients)) why h (search_pass (idle_plan f n clients) ok)

@@ -1,9 +1,9 @@
 -- The bench examples are right: a test of each is computed, and says that the answer is one that the contract allows;
 -- and it allows no other. What a refusal or a run is asked for is computed in the same way.
 -- Assumes nothing.
-use mathlib.Core.Path.{◌≡◌, refl, sym, ◌∙◌, fun_ext}
+use mathlib.Core.Path.{◌≡◌, refl, sym, ◌∙◌, fun_ext, ap}
 use mathlib.Core.Bool.{Bool, true, false}
-use mathlib.Core.List.{List, [], ◌∷◌}
+use mathlib.Core.List.{List, [], ◌∷◌, ◌++◌}
 use Prim.Native.Nat.{ℕ, ◌+◌, ◌-◌, ◌%◌, ◌≤◌, ◌<◌}
 use native.Mathlib.Nat.{mod-lt, zero-add}
 use native.Mathlib.Omega.{arith}
@@ -11,11 +11,12 @@ use lib.Dec.{eqb, leb, ltb}
 use lib.ListN.{length, get_or, replicate}
 use lib.Seq.{take_at, drop_at}
 use borrow.Author.Tests.{eqb-true, leb-true, ltb-true}
+use Rattle.records.specs.Said.{Said}
+use Rattle.std.specs.declared.result.Result.TheVariants as result
 use Rattle.frame.specs.Frame.{slots_of, within, Frame}
 use Rattle.frame.specs.Largest.{largest, lack, lack_from, scaled_of, wait_of}
-use Rattle.records.specs.First.{pick, among, range_check, first_of}
+use Rattle.records.specs.First.{pick, among, range_check, first_of, Fine}
 use Rattle.records.specs.Pieces.{firsts, onto, padded}
-use Rattle.records.specs.declared.Outcome.TheVariants.{Fine}
 use Rattle.records.proofs.Checks.{both_true, one_or_none}
 use Rattle.records.proofs.Lists.{get_padded}
 use Rattle.plan.specs.declared.Client.{Client}
@@ -25,36 +26,36 @@ use Rattle.plan.specs.Check.{client_check, owner_check, client_check_of, require
 use Rattle.plan.specs.Check.{owners_check, plan_check, asked_check}
 use Rattle.plan.proofs.Laws.{Required, Checked, plan_fine}
 use Rattle.figures.specs.declared.Figure.{Figure}
-use Rattle.figures.specs.declared.FigureAnswer.TheVariants as figures
-use Rattle.figures.specs.declared.WaitAnswer.TheVariants as wait
 use Rattle.figures.specs.Check.{figure_check, wait_check}
 use Rattle.figures.specs.Figures.{IsFigures, IsWaitFor}
 use Rattle.figures.proofs.Laws.{frame_of}
 use Rattle.figures.proofs.Entries.{figure_tight, wait_tight}
-use Rattle.judge.specs.declared.JudgeAnswer.{JudgeAnswer}
-use Rattle.judge.specs.declared.JudgeAnswer.TheVariants as judged
 use Rattle.judge.specs.declared.Verdict.TheVariants.{Late}
 use Rattle.judge.specs.Rules.{enough, covers, IsOk, IsLate}
 use Rattle.judge.specs.Judge.{IsJudged, acceptance}
 use Rattle.judge.proofs.Laws.{first_at, judged_none}
 use Rattle.judge.proofs.Entries.{judge_tight}
 use Rattle.explore.specs.Best.{owned}
-use Rattle.search.specs.declared.Searched.{Searched}
 use Rattle.search.specs.Search.{search_check, size_check, IsSearched}
 use Rattle.search.proofs.Questions.{search_fine}
 use Rattle.search.proofs.Entries.{search_tight}
 use Rattle.arbiter.specs.declared.Arbiter.{Arbiter}
 use Rattle.arbiter.specs.Step.{rule_for, served_by, less_one, advanced, position_check, arrivals_check, step_check}
-use Rattle.arbiter.specs.Step.{step_of}
+use Rattle.arbiter.specs.Step.{step_of, step_said}
 use Rattle.arbiter.specs.Run.{record_after, total_of, served_of, pending_of}
 use Rattle.promises.specs.Bench.{Schedule, schedule_plan, search_plan, little, Question, figure, waiting}
 use Rattle.promises.specs.Bench.{default_wait, refused_figure, refused_wait, accepted, late, found, none}
-use Rattle.promises.specs.Bench.{search_refused, searchable, steps, one_pending, Only, OnePending, Right}
-use Rattle.promises.specs.Bench.{AllRight, questions}
+use Rattle.promises.specs.Bench.{search_refused, searchable, steps, step_refused, one_pending, Only, Refuses}
+use Rattle.promises.specs.Bench.{OnePending, Right, AllRight, questions}
 use Rattle.promises.proofs.Tests.{all_below, each_below, fine_test, fine_tested, refused_test, refused_tested}
-use Rattle.promises.proofs.Tests.{ok_test, ok_tested, late_test, late_tested, accept_test, every_table, lex_test}
-use Rattle.promises.proofs.Tests.{better_test, none_test, none_tested, best_test, best_tested, numbers_test}
-use Rattle.promises.proofs.Tests.{answer_test, step_test, step_tested}
+use Rattle.promises.proofs.Tests.{said_passes, said_refuses, ok_test, ok_tested, late_test, late_tested, accept_test}
+use Rattle.promises.proofs.Tests.{every_table, lex_test, better_test, none_test, none_tested, best_test, best_tested}
+use Rattle.promises.proofs.Tests.{numbers_test, step_test, step_tested}
+use Rattle.arbiter.proofs.Slots.{said_stopped}
+use Rattle.std.specs.Prelude.{Option, Some, None}
+use Rattle.judge.specs.declared.Judgement.{Judgement}
+use Rattle.records.specs.declared.refusal.Refusal.{Refusal}
+use Rattle.records.specs.Refusal.{number}
 use Rattle.promises.proofs.Figured.{every, figure_test, wait_test, Figured, figured, figure_allowed, wait_allowed}
 
 -- ---- a schedule as a plan
@@ -133,7 +134,9 @@ test (none f n client) =
     pick (fine_test (search_check (search_plan f n client))) (none_test (search_plan f n client)) false
 test (search_refused f n client number) = refused_test (search_check (search_plan f n client)) number
 test (searchable f n client) = fine_test (search_check (search_plan f n client))
-test (steps plan arb xs goes) = step_test (step_of plan arb xs) goes
+test (steps plan arb xs goes) =
+    pick (fine_test (step_check plan arb.position (length xs))) (step_test (step_of plan arb xs) goes) false
+test (step_refused plan arb xs number) = refused_test (step_check plan arb.position (length xs)) number
 test (one_pending plan i arb xss served) =
     pick (one_pending_test plan i arb xss) (eqb (served_of plan i arb xss) served) false
 
@@ -179,7 +182,7 @@ module _ (t : Schedule) (m L : ℕ) (facts : Scheduled t m L) where
       let allowed = figure_allowed plan 1 checked (omega arith) (omega arith) (own_by t) same m L facts.figures in
       let its : Figure = record { slots = m; scaled = L } in
       record {
-        answer = figures.Given its;
+        answer = result.Ok its;
         is = allowed;
         only = λ r is.
             record { figure = its; given = figure_tight.once plan 1 r _ is allowed; slots = refl; scaled = refl };
@@ -226,14 +229,14 @@ module _ (t : Schedule) (client : Client) (tested : fine_test (plan_check (sched
       let first : i ≡ 0 = omega arith in
       rw (first, get_padded (λ j. client) 1 8 no_client 0 (omega arith), own_schedule client t f_low) h
 
-  judged_right : (r : JudgeAnswer) → IsJudged judged_plan r → Only (IsJudged judged_plan) r
+  judged_right : (r : Said Judgement) → IsJudged judged_plan r → Only (IsJudged judged_plan) r
   judged_right = only_answer (IsJudged judged_plan) (judge_tight.once judged_plan tt)
 
   accepted_right : ok_test client (own_by t) t.f ≡ true → Right (accepted t client)
   unfolding judged_plan schedule_plan
   accepted_right h =
       let ok = ok_tested client (own_by t) t.f schedule_frame h in
-      judged_right (judged.Given acceptance)
+      judged_right (result.Ok acceptance)
       (judged_fine, (record { each = λ i low l. only IsOk ok i l }, refl, refl, refl))
 
   late_right : (s j : ℕ) → late_test client (own_by t) t.f s j ≡ true → Right (late t client s j)
@@ -241,7 +244,7 @@ module _ (t : Schedule) (client : Client) (tested : fine_test (plan_check (sched
   late_right s j h =
       let bad = late_tested client (own_by t) t.f schedule_frame s j h in
       let none_before = (judged_none judged_plan 0).0 in
-      judged_right (judged.Given (record { client = 1; verdict = Late; start = s; length = j })) (
+      judged_right (result.Ok (record { client = 1; verdict = Late; start = s; length = j })) (
         judged_fine,
         first_at judged_plan 0 1 0 _ (omega arith) (omega arith) none_before
             (only (λ x own f. IsLate x own f s j) bad 0 (omega arith)),
@@ -255,7 +258,7 @@ module _ (f n : ℕ) (client : Client) (facts : fine_test (search_check (search_
   unfolding searched
   searched_fine = fine_tested (search_check searched) facts
 
-  search_right : (r : Searched) → IsSearched searched r → Only (IsSearched searched) r
+  search_right : (r : Said (Option (List ℕ))) → IsSearched searched r → Only (IsSearched searched) r
   search_right = only_answer (IsSearched searched) (search_tight.once searched tt)
 
   found_right : (table : List ℕ) → best_test (search_plan f n client) table ≡ true → Right (found f n client table)
@@ -264,11 +267,12 @@ module _ (f n : ℕ) (client : Client) (facts : fine_test (search_check (search_
       let rest = replicate {A = ℕ} (64 - f) 0 in
       let best = best_tested searched (search_fine searched searched_fine).bounds.f_low table h in
       let front = take_at table rest f best.table.long in
-      search_right _ (searched_fine, (rw front best, drop_at table rest f best.table.long))
+      search_right (result.Ok (Some (table ++ rest)))
+      (searched_fine, (rw front best, drop_at table rest f best.table.long))
 
   none_right : none_test (search_plan f n client) ≡ true → Right (none f n client)
   unfolding searched search_plan
-  none_right h = search_right _ (searched_fine, (none_tested searched h, refl))
+  none_right h = search_right (result.Ok None) (searched_fine, none_tested searched h)
 
 -- ---- a run
 
@@ -294,6 +298,13 @@ one_pending_tested plan i arb xss h =
 
 -- ---- each question
 
+-- a refusal with this number is the one answer
+refusing : {A : Type 0} (Is : Said A → Type 0) → ((r r' : Said A) → Is r → Is r' → r ≡ r') → (n : ℕ)
+    → {By : Refusal → Type 0} → ((why : Refusal) → By why → Is (result.Err why))
+    → (why : Refusal) × (number why ≡ n) × By why → Refuses Is n
+refusing Is once n says by =
+    record { why = by.0; numbered = by.1; only = only_answer Is once (result.Err by.0) (says by.0 by.2) }
+
 right : (q : Question) → test q ≡ true → Right q
 unfolding test
 right (figure t m L) h = figure_right t m L (scheduled t m L h)
@@ -301,12 +312,12 @@ right (waiting t k slots) h = schedule_wait_right t k slots h
 right (default_wait t slots) h = schedule_wait_right t default_waiting slots h
 right (refused_figure t c number) h =
     let plan = schedule_plan little t in
-    let refused = refused_tested (figure_check plan c) number h in
-    only_answer (IsFigures plan c) (figure_tight.once plan c) (figures.Refused number) refused
+    refusing (IsFigures plan c) (figure_tight.once plan c) number (λ why r. r)
+    (refused_tested (figure_check plan c) number h)
 right (refused_wait t c k number) h =
     let plan = schedule_plan little t in
-    let refused = refused_tested (wait_check plan c k) number h in
-    only_answer (IsWaitFor plan c k) (wait_tight.once plan (c, k)) (wait.Refused number) refused
+    refusing (IsWaitFor plan c k) (wait_tight.once plan (c, k)) number (λ why r. r)
+    (refused_tested (wait_check plan c k) number h)
 right (accepted t client) h =
     let g = both_true (fine_test (plan_check (schedule_plan client t))) (ok_test client (own_by t) t.f) h in
     accepted_right t client g.0 g.1
@@ -322,11 +333,22 @@ right (none f n client) h =
     none_right f n client g.0 g.1
 right (search_refused f n client number) h =
     let plan = search_plan f n client in
-    only_answer (IsSearched plan) (search_tight.once plan tt) _ (refused_tested (search_check plan) number h, refl)
+    refusing (IsSearched plan) (search_tight.once plan tt) number (λ why r. r)
+    (refused_tested (search_check plan) number h)
 right (searchable f n client) h = fine_tested (search_check (search_plan f n client)) h
 right (steps plan arb xs goes) h =
-    let e = step_tested (step_of plan arb xs) goes h in
-    record { answer = goes; is = sym e; only = λ r is. is ∙ e }
+    let g = both_true (fine_test (step_check plan arb.position (length xs))) (step_test (step_of plan arb xs) goes) h in
+    let fine = fine_tested (step_check plan arb.position (length xs)) g.0 in
+    let e = step_tested (step_of plan arb xs) goes g.1 in
+    let said : step_said plan arb xs ≡ result.Ok goes =
+    said_passes plan arb xs fine ∙ ap result.Ok e in
+    record { answer = result.Ok goes; is = sym said; only = λ r is. is ∙ said }
+right (step_refused plan arb xs number) h =
+    let refused = refused_tested (step_check plan arb.position (length xs)) number h in (
+      refusing (λ r. r ≡ step_said plan arb xs) (λ r r' is is'. is ∙ sym is') number
+          (λ why by. sym (said_refuses plan arb xs why by)) refused,
+      said_stopped plan arb xs (said_refuses plan arb xs refused.0 refused.2),
+    )
 right (one_pending plan i arb xss served) h =
     let g = both_true (one_pending_test plan i arb xss) (eqb (served_of plan i arb xss) served) h in
     (one_pending_tested plan i arb xss g.0, eqb-true (served_of plan i arb xss) served g.1)
@@ -346,7 +368,7 @@ pub bench : AllRight questions
 unfolding questions test own_by scaled_of lack_from largest lack within wait_of ok_test late_test fine_test none_test
     best_test accept_test every_table all_below better_test lex_test owned enough covers own_in search_plan search_check
     size_check schedule_plan plan_check requirements_check owners_check client_check_of owner_check_of client_check
-    owner_check range_check first_of firsts onto padded step_test answer_test numbers_test step_of step_check
+    owner_check range_check first_of firsts onto padded step_test numbers_test step_of step_check
     position_check arrivals_check advanced served_by less_one rule_for refused_test figure_check wait_check asked_check
     record_after total_of
 bench = all_right questions refl

@@ -56,11 +56,17 @@ use Rattle.promises.specs.Entries.{Name, entry}
 
 -- the contract of each entry
 abbrev pub contract_of : Name → Contract
-contract_of Name.records::or_else = contract records_or_else.Pre records_or_else.Post
-contract_of Name.records::check_range = contract records_check_range.Pre records_check_range.Post
+contract_of (Name.records::or_else E) =
+    contract (records_or_else.Pre E.type E.laws E.copied E.cloned E.methods)
+    (records_or_else.Post E.type E.laws E.copied E.cloned E.methods)
+contract_of (Name.records::check_range E) =
+    contract (records_check_range.Pre E.type E.laws E.copied E.cloned E.methods)
+    (records_check_range.Post E.type E.laws E.copied E.cloned E.methods)
 contract_of Name.records::wide = contract records_wide.Pre records_wide.Post
 contract_of Name.records::kind_at = contract records_kind_at.Pre records_kind_at.Post
-contract_of Name.records::check_record = contract records_check_record.Pre records_check_record.Post
+contract_of (Name.records::check_record E) =
+    contract (records_check_record.Pre E.type E.laws E.copied E.cloned E.methods)
+    (records_check_record.Post E.type E.laws E.copied E.cloned E.methods)
 contract_of Name.records::check_over = contract records_check_over.Pre records_check_over.Post
 contract_of Name.plan::no_client = contract plan_no_client.Pre plan_no_client.Post
 contract_of Name.plan::no_plan = contract plan_no_plan.Pre plan_no_plan.Post
@@ -99,11 +105,11 @@ contract_of Name.capi::gwelathur_homing = contract capi_homing.Pre capi_homing.P
 
 -- a contract that is loosened in lib.rt, or that asks something, is refused here
 pub tied : (name : Name) → Tied (entry name) (contract_of name)
-tied Name.records::or_else = records.or_else_tied
-tied Name.records::check_range = records.range_tied
+tied (Name.records::or_else E) = records.or_else_tied E
+tied (Name.records::check_range E) = records.range_tied E
 tied Name.records::wide = records.wide_tied
 tied Name.records::kind_at = records.kind_tied
-tied Name.records::check_record = records.record_tied
+tied (Name.records::check_record E) = records.record_tied E
 tied Name.records::check_over = records.over_tied
 tied Name.plan::no_client = plan.no_client_tied
 tied Name.plan::no_plan = plan.no_plan_tied

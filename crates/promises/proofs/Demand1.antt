@@ -1,8 +1,8 @@
 -- Demand 1: every stream, plan, arbiter record and number handed in gets a defined reply. `defined` says it of all
 -- public entries, row by row of the table in specs/Entries.antt: two outcomes that a contract allows coincide; each
--- refusal has its number, gives 0 for all else, a refused read a plan of zeros, and leaves a lent output untouched and
--- a lent record unchanged; places that are not used are not read; each number is given somewhere; and the row is the
--- entry's own contract. After it what is one entry's own.
+-- refusal has its number, gives nothing besides, to C 0 for all else, and leaves a lent output untouched and a lent
+-- record unchanged; places that are not used are not read; each number is given somewhere; and the row is the entry's
+-- own contract. After it what is one entry's own.
 -- Assumes nothing.
 use mathlib.Core.Path.{◌≡◌, refl, ap, ◌∙◌}
 use mathlib.Core.List.{List}
@@ -10,13 +10,14 @@ use Prim.Native.Nat.{ℕ, ◌-◌, ◌≤◌, ◌<◌}
 use native.Mathlib.Omega.{arith}
 use lib.ListN.{length, get_or, take, drop}
 use lib.Seq.{take_at, drop_at}
+use Rattle.std.specs.declared.result.Result.TheVariants as result
 use Rattle.frame.specs.Frame.{slots_of}
-use Rattle.records.specs.First.{offset_of}
-use Rattle.records.specs.Said.{given}
-use Rattle.records.specs.Entry.{Tight, Shown, Tied}
+use Rattle.records.specs.declared.refusal.At.{At}
+use Rattle.records.specs.declared.refusal.Refusal.{Refusal}
+use Rattle.records.specs.First.{Outcome, Fine}
+use Rattle.records.specs.Said.{Said}
+use Rattle.records.specs.Entry.{Tight, ValueOf, Shown, Tied}
 use Rattle.records.specs.Put.{Put}
-use Rattle.records.specs.declared.Outcome.{Outcome}
-use Rattle.records.specs.declared.Outcome.TheVariants.{Fine, Refused}
 use Rattle.records.proofs.Said.{answers_given}
 use Rattle.records.proofs.Entry as entries
 use Rattle.records.proofs.Puts.{put_length, put_front}
@@ -37,21 +38,16 @@ use Rattle.plan.proofs.Laws.{Checked, plan_fine, plan_pass, asked_fine, asked_pa
 use Rattle.text.specs.Text.{bytes, refusal_line, Puts, Lendable}
 use Rattle.stream.specs.Read.{read_of}
 use Rattle.stream.specs.Write.{stream_of, write_check, bytes_by, bytes_of}
+use Rattle.stream.proofs.Answers.{reading_refused}
 use Rattle.stream.proofs.Offsets.{read_within}
 use Rattle.figures.specs.Check.{figure_check, wait_check}
-use Rattle.figures.specs.Figures.{IsFigure, figure_said, IsFigures, Waits, wait_said, IsWaitFor}
+use Rattle.figures.specs.Figures.{IsFigure, IsFigures, Waits, IsWaitFor}
 use Rattle.figures.specs.declared.Figure.{Figure}
-use Rattle.figures.specs.declared.FigureAnswer.{FigureAnswer}
-use Rattle.figures.specs.declared.FigureAnswer.TheVariants as figure
-use Rattle.figures.specs.declared.WaitAnswer.{WaitAnswer}
-use Rattle.figures.specs.declared.WaitAnswer.TheVariants as wait
 use Rattle.figures.proofs.Questions.{Asked, figure_fine, figure_pass, Waited, wait_fine, wait_pass}
 use Rattle.judge.specs.declared.Judgement.{Judgement}
-use Rattle.judge.specs.declared.JudgeAnswer.{JudgeAnswer}
 use Rattle.judge.specs.declared.Verdict.{Verdict}
-use Rattle.judge.specs.declared.VerdictAnswer.{VerdictAnswer}
 use Rattle.judge.specs.Rules.{IsVerdict}
-use Rattle.judge.specs.Judge.{IsJudgement, judge_said, IsJudged, verdict_said, IsVerdictOf}
+use Rattle.judge.specs.Judge.{IsJudgement, IsJudged, IsVerdictOf}
 use Rattle.search.specs.Search.{search_check}
 use Rattle.search.proofs.Questions.{Searchable, search_fine, search_pass}
 use Rattle.arbiter.specs.declared.Arbiter.{Arbiter}
@@ -67,11 +63,11 @@ use Rattle.promises.proofs.Shown.{shown}
 -- ---- all entries
 
 pub tight : (name : Name) → Tight (entry name)
-tight Name.records::or_else = records.or_else_tight
-tight Name.records::check_range = records.range_tight
+tight (Name.records::or_else E) = records.or_else_tight (ValueOf E)
+tight (Name.records::check_range E) = records.range_tight (ValueOf E)
 tight Name.records::wide = records.wide_tight
 tight Name.records::kind_at = records.kind_tight
-tight Name.records::check_record = records.record_tight
+tight (Name.records::check_record E) = records.record_tight (ValueOf E)
 tight Name.records::check_over = records.over_tight
 tight Name.plan::no_client = plan.no_client_tight
 tight Name.plan::no_plan = plan.no_plan_tight
@@ -152,21 +148,21 @@ pub step_exactly : (plan : Plan) (position arrived : ℕ)
 step_exactly plan position arrived = (step_fine plan position arrived, step_pass plan position arrived)
 
 -- and where its check passes, a question's answer is given
-pub figure_given : (plan : Plan) (c : ℕ) (r : FigureAnswer) → IsFigures plan c r → figure_check plan c ≡ Fine
-    → (x : Figure) × (figure_said r ≡ given x) × IsFigure (own_of plan c) plan.f x
-figure_given plan c r = answers_given _ _ (figure_said r)
+pub figure_given : (plan : Plan) (c : ℕ) (r : Said Figure) → IsFigures plan c r → figure_check plan c ≡ Fine
+    → (x : Figure) × (r ≡ result.Ok x) × IsFigure (own_of plan c) plan.f x
+figure_given plan c = answers_given _ _
 
-pub wait_given : (plan : Plan) (c k : ℕ) (r : WaitAnswer) → IsWaitFor plan c k r → wait_check plan c k ≡ Fine
-    → (x : ℕ) × (wait_said r ≡ given x) × Waits (own_of plan c) plan.f k x
-wait_given plan c k r = answers_given _ _ (wait_said r)
+pub wait_given : (plan : Plan) (c k : ℕ) (r : Said ℕ) → IsWaitFor plan c k r → wait_check plan c k ≡ Fine
+    → (x : ℕ) × (r ≡ result.Ok x) × Waits (own_of plan c) plan.f k x
+wait_given plan c k = answers_given _ _
 
-pub judge_given : (plan : Plan) (r : JudgeAnswer) → IsJudged plan r → plan_check plan ≡ Fine
-    → (x : Judgement) × (judge_said r ≡ given x) × IsJudgement plan 0 plan.n x
-judge_given plan r = answers_given _ _ (judge_said r)
+pub judge_given : (plan : Plan) (r : Said Judgement) → IsJudged plan r → plan_check plan ≡ Fine
+    → (x : Judgement) × (r ≡ result.Ok x) × IsJudgement plan 0 plan.n x
+judge_given plan = answers_given _ _
 
-pub verdict_given : (plan : Plan) (c : ℕ) (r : VerdictAnswer) → IsVerdictOf plan c r → asked_check plan c ≡ Fine
-    → (x : Verdict) × (verdict_said r ≡ given x) × IsVerdict (client_of plan (c - 1)) (own_of plan c) plan.f x
-verdict_given plan c r = answers_given _ _ (verdict_said r)
+pub verdict_given : (plan : Plan) (c : ℕ) (r : Said Verdict) → IsVerdictOf plan c r → asked_check plan c ≡ Fine
+    → (x : Verdict) × (r ≡ result.Ok x) × IsVerdict (client_of plan (c - 1)) (own_of plan c) plan.f x
+verdict_given plan c = answers_given _ _
 
 -- ---- the arbiter's record
 
@@ -192,13 +188,12 @@ turned_none = step_none
 -- ---- streams
 
 -- "the offset of that record's kind byte (.. the stream length ..)": it lies in the stream or at its end
-pub read_offset : (s : List ℕ) → offset_of (read_of s).outcome ≤ length s
-unfolding read_of
-read_offset s = read_within s
+pub read_offset : (s : List ℕ) (refused : At Refusal) → read_of s ≡ result.Err refused → refused.offset ≤ length s
+read_offset s refused h = rw (reading_refused s h) at (read_within s)
 
 kept_by : (o : Outcome) (stream out : List ℕ) → drop (length stream) (bytes_by o stream out) ≡ drop (length stream) out
-kept_by Fine stream out = drop_at stream (drop (length stream) out) (length stream) refl
-kept_by (Refused k offset) stream out = refl
+kept_by (result.Ok u) stream out = drop_at stream (drop (length stream) out) (length stream) refl
+kept_by (result.Err refused) stream out = refl
 
 -- "A write that succeeds touches only the stream's length of bytes"
 pub write_kept : (plan : Plan) (out : List ℕ)
@@ -236,15 +231,15 @@ pub homing_page : (s out now : List ℕ) (r : ℕ) → Puts (IsHoming s) out 0 n
 homing_page s = page_after (IsHoming s)
 
 -- "A client without slots has `-` for L and wait", and m 0; one with slots has numbers
-pub no_slots_figures : (plan : Plan) (c : ℕ) (r : FigureAnswer) → IsFigures plan c r
+pub no_slots_figures : (plan : Plan) (c : ℕ) (r : Said Figure) → IsFigures plan c r
     → slots_of (own_of plan c) plan.f ≡ 0 → figures_text r ≡ bytes "0 -"
 unfolding figures_text
-no_slots_figures plan c (figure.Given found) is none = absurd (omega (arith, none, (figure_fine plan c is.0).owns))
-no_slots_figures plan c (figure.Refused number) is none = refl
+no_slots_figures plan c (result.Ok found) is none = absurd (omega (arith, none, (figure_fine plan c is.0).owns))
+no_slots_figures plan c (result.Err why) is none = refl
 
-pub no_slots_wait : (plan : Plan) (c k : ℕ) (r : WaitAnswer) → IsWaitFor plan c k r
+pub no_slots_wait : (plan : Plan) (c k : ℕ) (r : Said ℕ) → IsWaitFor plan c k r
     → slots_of (own_of plan c) plan.f ≡ 0 → wait_text r ≡ bytes "-"
 unfolding wait_text
-no_slots_wait plan c k (wait.Given slots) is none =
+no_slots_wait plan c k (result.Ok slots) is none =
     absurd (omega (arith, none, (wait_fine plan c k is.0).asked.owns))
-no_slots_wait plan c k (wait.Refused number) is none = refl
+no_slots_wait plan c k (result.Err why) is none = refl

@@ -8,10 +8,13 @@ use mathlib.Core.List.{List}
 use Prim.Native.Nat.{ℕ, ◌+◌, ◌-◌, ◌*◌, ◌≤◌, ◌<◌}
 use native.Mathlib.Omega.{arith}
 use lib.ListN.{length}
+use Rattle.std.specs.declared.result.Result.TheVariants as result
 use Rattle.frame.specs.Frame.{Consecutive}
 use Rattle.frame.proofs.Limits.{scaled_least, scaled_most, scaled_small, scaled_consecutive, wait_small}
-use Rattle.records.specs.First.{number_of}
-use Rattle.records.specs.declared.Outcome.TheVariants.{Fine}
+use Rattle.std.specs.Prelude.{Result}
+use Rattle.records.specs.declared.refusal.At.{At}
+use Rattle.records.specs.declared.refusal.Refusal.{Refusal}
+use Rattle.records.specs.First.{number_of, Fine}
 use Rattle.records.proofs.Refusals.{gives_fine}
 use Rattle.records.proofs.Words.{Bytes}
 use Rattle.plan.specs.declared.Plan.{Plan}
@@ -23,16 +26,11 @@ use Rattle.stream.specs.Kind.{rows_of}
 use Rattle.stream.specs.Read.{read_of}
 use Rattle.stream.specs.Trip.{Held, reread_of}
 use Rattle.stream.specs.Write.{stream_of, longest}
-use Rattle.stream.specs.declared.Reading.{Reading}
 use Rattle.stream.proofs.Lengths.{length_stream, stream_sizes}
 use Rattle.stream.proofs.ReadBack.{read_back as stream_read_back}
 use Rattle.stream.proofs.Answers.{read_rewritten, reading_checked}
-use Rattle.stream.proofs.Refusals.{read_gives}
 use Rattle.plan.specs.Entries.{plan_numbers}
-use Rattle.stream.specs.Entries.{read_numbers}
 use Rattle.figures.specs.declared.Figure.{Figure}
-use Rattle.figures.specs.declared.FigureAnswer.TheVariants as figures
-use Rattle.figures.specs.declared.WaitAnswer.TheVariants as wait
 use Rattle.figures.specs.Figures.{IsFigures, IsWaitFor}
 use Rattle.figures.proofs.Laws.{frame_of}
 use Rattle.figures.proofs.Questions.{Asked, figure_fine, wait_fine}
@@ -42,29 +40,29 @@ use Rattle.arbiter.proofs.Latency.{least_empty_runs, latency_runs}
 
 -- ---- plan files
 
--- a read that is not refused
-not_refused : (s : List ℕ) → number_of (read_of s).outcome ≡ 0 → (read_of s).outcome ≡ Fine
-unfolding read_of
-not_refused s h = gives_fine read_numbers refl _ (read_gives s) h
-
 -- what is read is written back byte for byte
-pub written_back : (s : List ℕ) → Bytes s → number_of (read_of s).outcome ≡ 0 → stream_of (read_of s).plan ≡ s
-written_back s b h = read_rewritten s b refl (not_refused s h)
+pub written_back : (s : List ℕ) → Bytes s → (plan : Plan) → read_of s ≡ result.Ok plan → stream_of plan ≡ s
+written_back s b = read_rewritten s b refl
 
 -- every plan that is read passes the checks
-pub read_checked : (s : List ℕ) → number_of (read_of s).outcome ≡ 0 → plan_check (read_of s).plan ≡ Fine
-read_checked s h = reading_checked s (read_of s) refl (not_refused s h)
+pub read_checked : (s : List ℕ) (plan : Plan) → read_of s ≡ result.Ok plan → plan_check plan ≡ Fine
+read_checked s plan = reading_checked s
 
 -- what is written is read back: nothing is refused, and the plan is the same, with zeros past f and n
-pub record ReadBack (plan : Plan) (r : Reading) : Type 0 where
-  pub number : number_of r.outcome ≡ 0
-  pub same : Same plan r.plan
-  pub zeros : r.plan ≡ used plan
+pub record ReadBack (plan : Plan) (r : Result Plan (At Refusal)) : Type 0 where
+  pub read : Plan
+  pub is : r ≡ result.Ok read
+  pub same : Same plan read
+  pub zeros : read ≡ used plan
 
 pub read_back : (plan : Plan) → Held plan → number_of (plan_check plan) ≡ 0 → ReadBack plan (read_of (stream_of plan))
 read_back plan held h =
-    let e = stream_read_back plan held (gives_fine plan_numbers refl _ (plan_gives plan) h) in
-    rw e (record { number = refl; same = used_same plan; zeros = refl })
+    record {
+      read = used plan;
+      is = stream_read_back plan held (gives_fine plan_numbers refl _ (plan_gives plan) h);
+      same = used_same plan;
+      zeros = refl;
+    }
 
 -- "Plans are the same when f, n and the used places agree": they are read back as one
 pub reread_same : (plan other : Plan) → Same plan other → reread_of plan ≡ reread_of other
@@ -84,7 +82,7 @@ sized plan h =
 
 -- ---- figures
 
-module _ (plan : Plan) (i : ℕ) (figure : Figure) (is : IsFigures plan (i + 1) (figures.Given figure)) where
+module _ (plan : Plan) (i : ℕ) (figure : Figure) (is : IsFigures plan (i + 1) (result.Ok figure)) where
   asked : Asked plan (i + 1)
   asked = figure_fine plan (i + 1) is.0
 
@@ -105,7 +103,7 @@ module _ (plan : Plan) (i : ℕ) (figure : Figure) (is : IsFigures plan (i + 1) 
       rw is.1.slots
       (least_empty_runs plan i i< (plan_pass plan asked.checked) frame is.1.scaled x y sat)
 
-module _ (plan : Plan) (c : ℕ) (figure : Figure) (is : IsFigures plan c (figures.Given figure)) where
+module _ (plan : Plan) (c : ℕ) (figure : Figure) (is : IsFigures plan c (result.Ok figure)) where
   f_high : plan.f ≤ 64
   f_high = (figure_fine plan c is.0).checked.bounds.f_high
 
@@ -126,7 +124,7 @@ module _ (plan : Plan) (c : ℕ) (figure : Figure) (is : IsFigures plan c (figur
 
 -- ---- waits
 
-pub wait_limit : (plan : Plan) (c k slots : ℕ) → IsWaitFor plan c k (wait.Given slots) → slots ≤ 16383
+pub wait_limit : (plan : Plan) (c k slots : ℕ) → IsWaitFor plan c k (result.Ok slots) → slots ≤ 16383
 wait_limit plan c k slots is =
     let ok = wait_fine plan c k is.0 in
     let bounds = ok.asked.checked.bounds in

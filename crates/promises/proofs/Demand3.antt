@@ -10,6 +10,7 @@ use native.Mathlib.Nat.{mod-lt}
 use native.Mathlib.Omega.{arith}
 use lib.ListN.{length, get_or, take}
 use lib.Seq.{ext_get_or}
+use Rattle.std.specs.declared.result.Result.TheVariants as result
 use Rattle.frame.specs.Frame.{within}
 use Rattle.frame.specs.Queue.{most_pending}
 use Rattle.frame.specs.Service.{Guaranteed, AlwaysPending}
@@ -21,14 +22,13 @@ use Rattle.records.specs.Said.{said_number}
 use Rattle.plan.specs.declared.Plan.{Plan}
 use Rattle.plan.specs.Plan.{client_of, owner_of, own_of}
 use Rattle.plan.proofs.Laws.{plan_fine, plan_pass, own_most}
-use Rattle.figures.specs.declared.WaitAnswer.TheVariants as wait
 use Rattle.figures.specs.Figures.{IsWaitFor}
 use Rattle.figures.proofs.Laws.{frame_of}
 use Rattle.figures.proofs.Questions.{wait_fine}
 use Rattle.judge.specs.Judge.{Accepted}
 use Rattle.judge.proofs.Laws.{accepted_guaranteed}
 use Rattle.arbiter.specs.declared.Arbiter.{Arbiter}
-use Rattle.arbiter.specs.Step.{rule_of, count_of, arrived_of, step_of, step_said, client_served}
+use Rattle.arbiter.specs.Step.{rule_of, count_of, arrived_of, step_of, step_said}
 use Rattle.arbiter.specs.Run.{record_after, total_of, Runs, served_of, turned_of, taken_of, pending_of, served_in_of}
 use Rattle.arbiter.specs.Run.{AlwaysPendingOf, Agree}
 use Rattle.arbiter.proofs.Runs.{mine, mine_at, mine_length, mine_first, runs_first, served_run, turned_run, taken_run}
@@ -98,7 +98,7 @@ module _ (plan : Plan) (arb : Arbiter) (xss : List (List ℕ)) (runs : Runs plan
   taken_or_turned = taken_rest plan i i< arb xss runs
 
   -- "a request that is k-th in its queue after arrivals is served within the wait for k, that slot counted first"
-  pub served_in_time : (k slots : ℕ) → IsWaitFor plan (i + 1) k (wait.Given slots)
+  pub served_in_time : (k slots : ℕ) → IsWaitFor plan (i + 1) k (result.Ok slots)
       → (d : ℕ) → k ≤ pending_of plan i arb xss d → d + slots ≤ length xss → k ≤ served_in_of plan i arb xss d slots
   served_in_time k slots is d l fits =
       let frame = frame_of plan (i + 1) (wait_fine plan (i + 1) k is.0).asked.checked.bounds.f_low in
@@ -159,18 +159,18 @@ module _ (i : ℕ) (plan other : Plan) (arb arb' : Arbiter) (xss yss : List (Lis
 
 -- "never in another": a step names the owner of its slot, or nobody
 pub served_its_owner : (plan : Plan) (arb : Arbiter) (xs : List ℕ) (c : ℕ) → 0 < c
-    → client_served (step_of plan arb xs).served.answer ≡ c → owner_of plan arb.position ≡ c
+    → (step_of plan arb xs).served.client ≡ c → owner_of plan arb.position ≡ c
 served_its_owner plan arb xs c c> e =
     ⊎_elim
-    (λ (h : client_served (step_of plan arb xs).served.answer ≡ 0). absurd (omega arith))
-    (λ (h : client_served (step_of plan arb xs).served.answer ≡ owner_of plan arb.position). sym h ∙ e)
+    (λ (h : (step_of plan arb xs).served.client ≡ 0). absurd (omega arith))
+    (λ (h : (step_of plan arb xs).served.client ≡ owner_of plan arb.position). sym h ∙ e)
     (step_named plan arb xs)
 
 -- "none refused": no step of a run is refused exactly when its plan is in bounds, its position below f, and each of its
 -- lists has n entries
 pub refused_nowhere : (plan : Plan) (arb : Arbiter) (xss : List (List ℕ)) → 0 < length xss
     → Runs plan arb xss ↔ ((d : ℕ) → d < length xss
-    → said_number (step_said (step_of plan (record_after plan arb (take d xss)) (get_or xss d [])).served.answer) ≡ 0)
+    → said_number (step_said plan (record_after plan arb (take d xss)) (get_or xss d [])) ≡ 0)
 unfolding record_after
 refused_nowhere plan arb xss some = (
   λ runs d l.

@@ -7,18 +7,17 @@ use mathlib.Core.List.{List, [], ◌∷◌}
 use Prim.Native.Nat.{ℕ, ◌≤◌}
 use lib.Dec.{eqb, leb}
 use borrow.Author.Tests.{eqb-true, leb-true}
+use Rattle.std.specs.declared.result.Result.TheVariants as result
 use Rattle.frame.specs.Frame.{slots_of}
 use Rattle.frame.specs.Largest.{scaled_of, wait_of}
 use Rattle.frame.proofs.Scaled.{scaled_is, wait_is}
-use Rattle.records.specs.Refusal as refusal
+use Rattle.records.specs.declared.refusal.Refusal.TheVariants as refusal
 use Rattle.records.specs.First.{pick}
 use Rattle.records.proofs.Checks.{both_true, range_pass}
 use Rattle.plan.specs.declared.Plan.{Plan}
 use Rattle.plan.specs.Plan.{own_of}
 use Rattle.plan.proofs.Laws.{Checked}
 use Rattle.figures.specs.declared.Figure.{Figure}
-use Rattle.figures.specs.declared.FigureAnswer.TheVariants as figures
-use Rattle.figures.specs.declared.WaitAnswer.TheVariants as wait
 use Rattle.figures.specs.Check.{most_waiting}
 use Rattle.figures.specs.Figures.{IsFigure, IsFigures, IsWaitFor}
 use Rattle.figures.proofs.Laws.{frame_of}
@@ -79,14 +78,14 @@ module _ (plan : Plan) (c : ℕ) (checked : Checked plan) (low : 1 ≤ c) (high 
         scaled = rw scaled_worked at (scaled_is (frame_of plan c checked.bounds.f_low));
       }
 
-  pub figure_allowed : IsFigures plan c (figures.Given its_figure)
+  pub figure_allowed : IsFigures plan c (result.Ok its_figure)
   figure_allowed = (figure_pass plan c asked, figure_is)
 
-  pub wait_allowed : (k slots : ℕ) → wait_test plan.f m L k slots ≡ true → IsWaitFor plan c k (wait.Given slots)
+  pub wait_allowed : (k slots : ℕ) → wait_test plan.f m L k slots ≡ true → IsWaitFor plan c k (result.Ok slots)
   wait_allowed k slots h =
       let a = both_true (leb 1 k) _ h in
       let b = both_true (leb k most_waiting) _ a.1 in
       let d = both_true (eqb (wait_of plan.f m L k) slots) true b.1 in
-      let range = range_pass k most_waiting refusal.waiting (leb-true 1 k a.0) (leb-true k most_waiting b.0) in
+      let range = range_pass k most_waiting refusal.Waiting (leb-true 1 k a.0) (leb-true k most_waiting b.0) in
       let least = rw (eqb-true (wait_of plan.f m L k) slots d.0) at (wait_is plan.f m L k facts.m_low) in
       waits_given plan c its_figure figure_allowed k slots range least

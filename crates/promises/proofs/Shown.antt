@@ -12,14 +12,12 @@ use Rattle.records.specs.Record.{record_check, over_check}
 use Rattle.plan.specs.declared.Plan.{Plan}
 use Rattle.plan.specs.Plan.{no_client, own_in}
 use Rattle.plan.specs.Check.{client_check, owner_check, client_check_of, requirements_check, owner_check_of}
-use Rattle.plan.specs.Check.{owners_check}
-use Rattle.plan.specs.Check.{plan_check, asked_check}
-use Rattle.stream.specs.Kind.{class_of}
+use Rattle.plan.specs.Check.{owners_check, plan_check, asked_check}
+use Rattle.stream.specs.Kind.{kind_check}
 use Rattle.stream.specs.Read.{next_place, place, due_check, head_record_check, client_at, number_check}
-use Rattle.stream.specs.Read.{client_record_check}
-use Rattle.stream.specs.Read.{client_due_check, slot_check, slot_due_check, row_record_check, row_due_check}
-use Rattle.stream.specs.Read.{end_record_check}
-use Rattle.stream.specs.Read.{rest_check, read_check, client_in, owner_in, plan_of, read_of}
+use Rattle.stream.specs.Read.{client_record_check, client_due_check, slot_check, slot_due_check, row_record_check}
+use Rattle.stream.specs.Read.{row_due_check, end_record_check, rest_check, read_check, client_in, owner_in, plan_of}
+use Rattle.stream.specs.Read.{read_of}
 use Rattle.stream.specs.Trip.{copy_check}
 use Rattle.stream.specs.Write.{client_bytes, client_record, slot_byte, row_byte, row_record, stream_of, write_check}
 use Rattle.figures.specs.Check.{figure_check, wait_check}
@@ -103,16 +101,16 @@ step_inputs =
 
 pub shown : (name : Name) → Shown (entry name)
 unfolding within many firsts onto padded own_in range_check first_of record_check over_check client_check owner_check
-    client_check_of requirements_check owner_check_of owners_check plan_check asked_check class_of next_place place
+    client_check_of requirements_check owner_check_of owners_check plan_check asked_check kind_check next_place place
     due_check head_record_check client_at number_check client_record_check client_due_check slot_check slot_due_check
     row_record_check row_due_check end_record_check rest_check read_check client_in owner_in plan_of read_of copy_check
     client_bytes client_record slot_byte row_byte row_record stream_of write_check figure_check wait_check size_check
     search_check position_check arrivals_check step_check
-shown Name.records::or_else = ([], refl)
-shown Name.records::check_range = ([], refl)
+shown (Name.records::or_else E) = ([], refl)
+shown (Name.records::check_range E) = ([], refl)
 shown Name.records::wide = ([], refl)
 shown Name.records::kind_at = ([], refl)
-shown Name.records::check_record = ([], refl)
+shown (Name.records::check_record E) = ([], refl)
 shown Name.records::check_over = (((1 ∷ []), 0) ∷ [], refl)
 shown Name.plan::no_client = ([], refl)
 shown Name.plan::no_plan = ([], refl)

@@ -12,9 +12,10 @@ use lib.Dec.{leb, ltb, eqb}
 use lib.ListN.{length, get_or, get_or-eq_default}
 use borrow.Author.Tests.{leb-true, ltb-true, eqb-true, not-true}
 use Rattle.frame.specs.Frame.{slots_of, Frame}
-use Rattle.records.specs.First.{pick, RefusedBy}
-use Rattle.records.specs.declared.Outcome.{Outcome}
-use Rattle.records.specs.declared.Outcome.TheVariants.{Fine, Refused}
+use Rattle.std.specs.declared.result.Result.TheVariants as result
+use Rattle.records.specs.declared.refusal.Refusal.{Refusal}
+use Rattle.records.specs.Refusal.{number}
+use Rattle.records.specs.First.{pick, RefusedBy, Outcome, Fine}
 use Rattle.records.proofs.Checks.{false_true, both_true, last_or_below}
 use Rattle.plan.specs.declared.Client.{Client}
 use Rattle.plan.specs.declared.Plan.{Plan}
@@ -25,9 +26,9 @@ use Rattle.judge.specs.Judge.{Accepted}
 use Rattle.judge.proofs.Laws.{lengths_suffice, starts_suffice}
 use Rattle.explore.specs.Best.{Table, owned, LexLe, IsBest, NoTable}
 use Rattle.search.specs.Search.{AcceptedIn}
-use Rattle.arbiter.specs.declared.StepAnswer.{StepAnswer}
-use Rattle.arbiter.specs.declared.StepAnswer.TheVariants as answer
+use Rattle.arbiter.specs.declared.Arbiter.{Arbiter}
 use Rattle.arbiter.specs.declared.Stepped.{Stepped}
+use Rattle.arbiter.specs.Step.{step_check, step_of, said_by, step_said}
 
 -- ---- tests
 
@@ -50,23 +51,24 @@ below_each (suc n) P h = rw (below_each n P (λ i l. h i (omega arith)), h n (om
 
 -- nothing is refused
 unfoldable pub fine_test : Outcome → Bool
-fine_test Fine = true
-fine_test (Refused k offset) = false
+fine_test (result.Ok u) = true
+fine_test (result.Err refused) = false
 
 pub fine_tested : (o : Outcome) → fine_test o ≡ true → o ≡ Fine
 unfolding fine_test
-fine_tested Fine h = refl
-fine_tested (Refused k offset) h = false_true h
+fine_tested (result.Ok u) h = refl
+fine_tested (result.Err refused) h = false_true h
 
 -- it is refused with this number
 unfoldable pub refused_test : Outcome → ℕ → Bool
-refused_test Fine number = false
-refused_test (Refused k offset) number = eqb number k
+refused_test (result.Ok u) n = false
+refused_test (result.Err refused) n = eqb n (number refused.why)
 
-pub refused_tested : (o : Outcome) (number : ℕ) → refused_test o number ≡ true → RefusedBy o number
+pub refused_tested : (o : Outcome) (n : ℕ) → refused_test o n ≡ true
+    → (why : Refusal) × (number why ≡ n) × (RefusedBy o why)
 unfolding refused_test
-refused_tested Fine number h = false_true h
-refused_tested (Refused k offset) number h = eqb-true number k h
+refused_tested (result.Ok u) n h = false_true h
+refused_tested (result.Err refused) n h = (refused.why, sym (eqb-true n (number refused.why) h), refl)
 
 -- ---- a client
 
@@ -256,33 +258,19 @@ numbers_tested (x ∷ xs) (y ∷ ys) h =
     let b = both_true (eqb x y) (numbers_test xs ys) h in
     rw (eqb-true x y b.0, numbers_tested xs ys b.1)
 
--- the same client served, or the same refusal
-unfoldable pub answer_test : StepAnswer → StepAnswer → Bool
-answer_test (answer.Given a) (answer.Given b) = eqb a b
-answer_test (answer.Given a) (answer.Refused b) = false
-answer_test (answer.Refused a) (answer.Given b) = false
-answer_test (answer.Refused a) (answer.Refused b) = eqb a b
-
-answer_tested : (a b : StepAnswer) → answer_test a b ≡ true → a ≡ b
-unfolding answer_test
-answer_tested (answer.Given a) (answer.Given b) h = ap answer.Given (eqb-true a b h)
-answer_tested (answer.Given a) (answer.Refused b) h = false_true h
-answer_tested (answer.Refused a) (answer.Given b) h = false_true h
-answer_tested (answer.Refused a) (answer.Refused b) h = ap answer.Refused (eqb-true a b h)
-
 -- r and s give the same
 unfoldable pub step_test : Stepped → Stepped → Bool
 step_test r s =
     pick
-    (pick (answer_test r.served.answer s.served.answer)
+    (pick (eqb r.served.client s.served.client)
     (numbers_test r.served.turned s.served.turned) false)
     (pick (eqb r.next.position s.next.position) (numbers_test r.next.pending s.next.pending) false)
     false
 
-stepped_alike : (a b : StepAnswer) (t u : List ℕ) (x y : ℕ) (p q : List ℕ) → a ≡ b → t ≡ u → x ≡ y → p ≡ q
+stepped_alike : (a b : ℕ) (t u : List ℕ) (x y : ℕ) (p q : List ℕ) → a ≡ b → t ≡ u → x ≡ y → p ≡ q
     → ◌≡◌ {A = Stepped}
-    (record { served = record { answer = a; turned = t }; next = record { position = x; pending = p } })
-    (record { served = record { answer = b; turned = u }; next = record { position = y; pending = q } })
+    (record { served = record { client = a; turned = t }; next = record { position = x; pending = p } })
+    (record { served = record { client = b; turned = u }; next = record { position = y; pending = q } })
 stepped_alike a b t u x y p q e f g h = rw (e, f, g, h)
 
 pub step_tested : (r s : Stepped) → step_test r s ≡ true → r ≡ s
@@ -291,5 +279,20 @@ step_tested r s h =
     let b = both_true _ _ h in
     let said = both_true _ _ b.0 in
     let left = both_true _ _ b.1 in
-    stepped_alike _ _ _ _ _ _ _ _ (answer_tested _ _ said.0) (numbers_tested _ _ said.1)
+    stepped_alike _ _ _ _ _ _ _ _ (eqb-true _ _ said.0) (numbers_tested _ _ said.1)
     (eqb-true _ _ left.0) (numbers_tested _ _ left.1)
+
+-- what is said of a step whose check passes, and of one that is refused
+pub said_passes : (plan : Plan) (arb : Arbiter) (xs : List ℕ) → step_check plan arb.position (length xs) ≡ Fine
+    → step_said plan arb xs ≡ result.Ok (step_of plan arb xs)
+unfolding step_said
+said_passes plan arb xs fine = rw fine
+
+pub said_refuses : (plan : Plan) (arb : Arbiter) (xs : List ℕ) (why : Refusal)
+    → RefusedBy (step_check plan arb.position (length xs)) why → step_said plan arb xs ≡ result.Err why
+unfolding step_said
+said_refuses plan arb xs why = by (step_check plan arb.position (length xs))
+  where
+    by : (o : Outcome) → RefusedBy o why → said_by o (step_of plan arb xs) ≡ result.Err why
+    by (result.Ok u) h = absurd h
+    by (result.Err refused) h = ap result.Err (sym h)

@@ -5,33 +5,30 @@ use mathlib.Core.Path.{◌≡◌, refl}
 use mathlib.Core.List.{List, [], ◌++◌}
 use Prim.Native.Nat.{ℕ}
 use native.Mathlib.Omega.{arith}
+use Rattle.std.specs.declared.result.Result.TheVariants as result
 use Rattle.frame.specs.Frame.{within}
 use Rattle.frame.specs.Largest.{largest, lack, lack_from, scaled_of, wait_of}
-use Rattle.records.specs.First.{range_check, first_of}
+use Rattle.records.specs.First.{range_check, first_of, Fine}
 use Rattle.records.specs.Pieces.{firsts, onto, padded}
 use Rattle.records.specs.Record.{record_check, over_check}
-use Rattle.records.specs.declared.Outcome.TheVariants.{Fine}
 use Rattle.plan.specs.Plan.{client_of, own_in, own_of, default_waiting}
 use Rattle.plan.specs.Check.{client_check, owner_check, client_check_of, requirements_check, owner_check_of}
 use Rattle.plan.specs.Check.{owners_check, plan_check}
 use Rattle.plan.proofs.Laws.{Checked, plan_fine}
 use Rattle.text.specs.Text.{bytes, decimal, decimal_of, Lines}
-use Rattle.stream.specs.Kind.{class_of}
+use Rattle.stream.specs.Kind.{kind_check}
 use Rattle.stream.specs.Read.{next_place, place, due_check, head_record_check, client_at, number_check}
-use Rattle.stream.specs.Read.{client_record_check}
-use Rattle.stream.specs.Read.{client_due_check, slot_check, slot_due_check, row_record_check, row_due_check}
-use Rattle.stream.specs.Read.{end_record_check}
-use Rattle.stream.specs.Read.{rest_check, read_check, client_in, owner_in, plan_of, read_of}
-use Rattle.figures.specs.declared.FigureAnswer.TheVariants as figures
-use Rattle.figures.specs.declared.WaitAnswer.TheVariants as wait
+use Rattle.stream.specs.Read.{client_record_check, client_due_check, slot_check, slot_due_check, row_record_check}
+use Rattle.stream.specs.Read.{row_due_check, end_record_check, rest_check, read_check, client_in, owner_in, plan_of}
+use Rattle.stream.specs.Read.{read_of}
 use Rattle.figures.specs.Figures.{IsFigures, IsWaitFor}
 use Rattle.figures.proofs.Laws.{frame_of}
 use Rattle.judge.specs.declared.Verdict.TheVariants.{Ok, Late}
 use Rattle.judge.specs.Rules.{enough, covers, IsOk, IsLate}
 use Rattle.judge.proofs.Laws.{first_at, judged_none}
 use Rattle.listing.specs.Listing.{figures_text, wait_text, verdict_text, line_text, refused_text, closing_text}
-use Rattle.listing.specs.Listing.{homing_line}
-use Rattle.listing.specs.Listing.{IsReportLine, IsClosing, IsReportOf, IsHomingOf, IsHomingLine, IsReport, IsHoming}
+use Rattle.listing.specs.Listing.{homing_line, IsReportLine, IsClosing, IsReportOf, IsHomingOf, IsHomingLine}
+use Rattle.listing.specs.Listing.{IsReport, IsHoming}
 use Rattle.listing.proofs.Laws.{client_asked}
 use Rattle.listing.proofs.Once.{report_once, homing_once}
 use Rattle.promises.specs.Bench.{report_plan, Only}
@@ -42,11 +39,11 @@ use Rattle.promises.proofs.Bench.{only_answer}
 
 -- ---- the plan
 
-report_read : read_of report_stream ≡ record { outcome = Fine; plan = report_plan }
+report_read : read_of report_stream ≡ result.Ok report_plan
 unfolding report_stream read_of read_check head_record_check rest_check end_record_check due_check record_check
-    over_check class_of first_of client_due_check client_record_check number_check client_check client_at row_due_check
-    row_record_check slot_due_check slot_check owner_check range_check next_place place plan_of client_in owner_in
-    firsts onto padded
+    over_check kind_check first_of client_due_check client_record_check number_check client_check client_at
+    row_due_check row_record_check slot_due_check slot_check owner_check range_check next_place place plan_of client_in
+    owner_in firsts onto padded
 report_read = refl
 
 report_fine : plan_check report_plan ≡ Fine
@@ -63,10 +60,10 @@ first_figured : Figured (own_of report_plan 1) 8 4 12
 unfolding within scaled_of lack_from largest lack own_in firsts onto padded
 first_figured = figured (own_of report_plan 1) 8 4 12 refl
 
-first_figures : IsFigures report_plan 1 (figures.Given (record { slots = 4; scaled = 12 }))
+first_figures : IsFigures report_plan 1 (result.Ok (record { slots = 4; scaled = 12 }))
 first_figures = figure_allowed report_plan 1 report_checked (omega arith) (omega arith) _ refl 4 12 first_figured
 
-first_wait : IsWaitFor report_plan 1 default_waiting (wait.Given 5)
+first_wait : IsWaitFor report_plan 1 default_waiting (result.Ok 5)
 unfolding wait_of
 first_wait =
     wait_allowed report_plan 1 report_checked (omega arith) (omega arith) _ refl 4 12 first_figured
@@ -84,8 +81,8 @@ first_line =
       line =
           record {
             client = 1;
-            figures = figures.Given (record { slots = 4; scaled = 12 });
-            wait = wait.Given 5;
+            figures = result.Ok (record { slots = 4; scaled = 12 });
+            wait = result.Ok 5;
             verdict = Late;
           };
       is =
@@ -104,10 +101,10 @@ second_figured : Figured (own_of report_plan 2) 8 2 6
 unfolding within scaled_of lack_from largest lack own_in firsts onto padded
 second_figured = figured (own_of report_plan 2) 8 2 6 refl
 
-second_figures : IsFigures report_plan 2 (figures.Given (record { slots = 2; scaled = 6 }))
+second_figures : IsFigures report_plan 2 (result.Ok (record { slots = 2; scaled = 6 }))
 second_figures = figure_allowed report_plan 2 report_checked (omega arith) (omega arith) _ refl 2 6 second_figured
 
-second_wait : IsWaitFor report_plan 2 default_waiting (wait.Given 7)
+second_wait : IsWaitFor report_plan 2 default_waiting (result.Ok 7)
 unfolding wait_of
 second_wait =
     wait_allowed report_plan 2 report_checked (omega arith) (omega arith) _ refl 2 6 second_figured
@@ -124,8 +121,8 @@ second_line =
       line =
           record {
             client = 2;
-            figures = figures.Given (record { slots = 2; scaled = 6 });
-            wait = wait.Given 7;
+            figures = result.Ok (record { slots = 2; scaled = 6 });
+            wait = result.Ok 7;
             verdict = Ok;
           };
       is =
@@ -178,8 +175,8 @@ homing_of : IsHomingOf report_plan homing_text
 unfolding homing_text homing_line wait_text decimal_of decimal
 homing_of =
     two_lines (IsHomingLine report_plan) (bytes "1 5\n") (bytes "2 7\n")
-    (record { wait = wait.Given 5; is = first_wait; whole = refl })
-    (record { wait = wait.Given 7; is = second_wait; whole = refl })
+    (record { wait = result.Ok 5; is = first_wait; whole = refl })
+    (record { wait = result.Ok 7; is = second_wait; whole = refl })
 
 -- "writes only number and default wait", and nothing else
 pub homing_told : Only (IsHoming report_stream) homing_text

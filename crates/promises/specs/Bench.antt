@@ -2,27 +2,24 @@
 -- refusals of figures, waits, searches and steps: a question, and the answer that its contract allows, and no other;
 -- besides a search at its limits, and a run in which one request is pending. Refusal numbers and limits are written
 -- out, so that a name with another number is refused. `bench` in proofs/Bench.antt proves them all.
-use Rattle.std.specs.Prelude.{◌≡◌, List, [], ◌∷◌, ◌++◌, ℕ, ◌-◌, ◌<◌, eqb, length, get_or, replicate}
-use Rattle.records.specs.First.{pick, among}
+use Rattle.records.specs.Said.{Said}
+use Rattle.std.specs.declared.result.Result.TheVariants as result
+use Rattle.std.specs.Prelude.{◌≡◌, List, [], ◌∷◌, ◌++◌, ℕ, ◌-◌, ◌<◌, eqb, length, get_or, replicate, Some, None}
+use Rattle.records.specs.declared.refusal.Refusal.{Refusal}
+use Rattle.records.specs.Refusal.{number}
+use Rattle.records.specs.First.{pick, among, Fine}
 use Rattle.records.specs.Pieces.{padded}
-use Rattle.records.specs.declared.Outcome.TheVariants.{Fine}
 use Rattle.plan.specs.declared.Client.{Client}
 use Rattle.plan.specs.declared.Plan.{Plan}
 use Rattle.plan.specs.Plan.{no_client, default_waiting}
 use Rattle.figures.specs.declared.Figure.{Figure}
-use Rattle.figures.specs.declared.FigureAnswer.{FigureAnswer}
-use Rattle.figures.specs.declared.FigureAnswer.TheVariants as figures
-use Rattle.figures.specs.declared.WaitAnswer.TheVariants as wait
 use Rattle.figures.specs.Figures.{IsFigures, IsWaitFor}
-use Rattle.judge.specs.declared.JudgeAnswer.TheVariants as judged
 use Rattle.judge.specs.declared.Verdict.TheVariants.{Late}
 use Rattle.judge.specs.Judge.{acceptance, IsJudged}
-use Rattle.search.specs.declared.SearchAnswer.TheVariants as finding
-use Rattle.search.specs.Search.{idle_plan, search_check, IsSearched, refused_search}
+use Rattle.search.specs.Search.{idle_plan, search_check, IsSearched}
 use Rattle.arbiter.specs.declared.Arbiter.{Arbiter}
-use Rattle.arbiter.specs.declared.StepAnswer.TheVariants.{Given}
 use Rattle.arbiter.specs.declared.Stepped.{Stepped}
-use Rattle.arbiter.specs.Step.{refused_step, step_of}
+use Rattle.arbiter.specs.Step.{refused_step, step_of, step_said}
 use Rattle.arbiter.specs.Run.{Runs, served_of, pending_of, AlwaysPendingOf}
 
 -- one client's schedule: a frame of f slots in which it owns those of the list
@@ -78,6 +75,8 @@ pub data Question : Type 0 where
   searchable : (f n : ℕ) → Client → Question
   -- a step of the arbiter from this record, with these arrivals: what it gives
   steps : Plan → Arbiter → List ℕ → Stepped → Question
+  -- or one that is refused with this number, and leaves the record
+  step_refused : Plan → Arbiter → List ℕ → (number : ℕ) → Question
   -- a run from this record, with these arrivals, in each slot of which client i + 1 has one request pending: how often
   -- it is served
   one_pending : Plan → (i : ℕ) → Arbiter → List (List ℕ) → (served : ℕ) → Question
@@ -92,10 +91,16 @@ pub record Answered {A : Type 0} (Is This : A → Type 0) : Type 0 where
 abbrev pub Only : {A : Type 0} → (A → Type 0) → A → Type 0
 Only Is answer = Answered Is (λ r. r ≡ answer)
 
+-- it allows a refusal with this number, and nothing else
+pub record Refuses {A : Type 0} (Is : Said A → Type 0) (n : ℕ) : Type 0 where
+  pub why : Refusal
+  pub numbered : number why ≡ n
+  pub only : Only Is (result.Err why)
+
 -- a figure is given, and it has this m and this L
-pub record HasFigure (m L : ℕ) (r : FigureAnswer) : Type 0 where
+pub record HasFigure (m L : ℕ) (r : Said Figure) : Type 0 where
   pub figure : Figure
-  pub given : r ≡ figures.Given figure
+  pub given : r ≡ result.Ok figure
   pub slots : figure.slots ≡ m
   pub scaled : figure.scaled ≡ L
 
@@ -106,26 +111,26 @@ pub record OnePending (plan : Plan) (i : ℕ) (arb : Arbiter) (xss : List (List 
   pub one : (d : ℕ) → d < length xss → pending_of plan i arb xss d ≡ 1
   pub always : AlwaysPendingOf plan i arb xss 0 (length xss)
 
--- the answer is this one; it is a refusal in those questions alone that say so, and in steps. A search at its limits is
--- not refused, and a run serves its client so often
+-- the answer is this one; it is a refusal in those questions alone that say so. A search at its limits is not refused,
+-- and a run serves its client so often
 abbrev pub Right : Question → Type 0
 Right (figure t m L) = Answered (IsFigures (schedule_plan little t) 1) (HasFigure m L)
-Right (waiting t k slots) = Only (IsWaitFor (schedule_plan little t) 1 k) (wait.Given slots)
-Right (default_wait t slots) = Only (IsWaitFor (schedule_plan little t) 1 default_waiting) (wait.Given slots)
-Right (refused_figure t c number) = Only (IsFigures (schedule_plan little t) c) (figures.Refused number)
-Right (refused_wait t c k number) = Only (IsWaitFor (schedule_plan little t) c k) (wait.Refused number)
-Right (accepted t client) = Only (IsJudged (schedule_plan client t)) (judged.Given acceptance)
+Right (waiting t k slots) = Only (IsWaitFor (schedule_plan little t) 1 k) (result.Ok slots)
+Right (default_wait t slots) = Only (IsWaitFor (schedule_plan little t) 1 default_waiting) (result.Ok slots)
+Right (refused_figure t c number) = Refuses (IsFigures (schedule_plan little t) c) number
+Right (refused_wait t c k number) = Refuses (IsWaitFor (schedule_plan little t) c k) number
+Right (accepted t client) = Only (IsJudged (schedule_plan client t)) (result.Ok acceptance)
 Right (late t client s j) =
     Only (IsJudged (schedule_plan client t))
-    (judged.Given (record { client = 1; verdict = Late; start = s; length = j }))
+    (result.Ok (record { client = 1; verdict = Late; start = s; length = j }))
 Right (found f n client table) =
-    Only (IsSearched (search_plan f n client))
-    (record { answer = finding.Found; owners = table ++ replicate (64 - f) 0 })
-Right (none f n client) =
-    Only (IsSearched (search_plan f n client)) (record { answer = finding.None; owners = replicate 64 0 })
-Right (search_refused f n client number) = Only (IsSearched (search_plan f n client)) (refused_search number)
+    Only (IsSearched (search_plan f n client)) (result.Ok (Some (table ++ replicate (64 - f) 0)))
+Right (none f n client) = Only (IsSearched (search_plan f n client)) (result.Ok None)
+Right (search_refused f n client number) = Refuses (IsSearched (search_plan f n client)) number
 Right (searchable f n client) = search_check (search_plan f n client) ≡ Fine
-Right (steps plan arb xs goes) = Only (λ r. r ≡ step_of plan arb xs) goes
+Right (steps plan arb xs goes) = Only (λ r. r ≡ step_said plan arb xs) (result.Ok goes)
+Right (step_refused plan arb xs number) =
+    Refuses (λ r. r ≡ step_said plan arb xs) number × (step_of plan arb xs ≡ refused_step arb)
 Right (one_pending plan i arb xss served) = OnePending plan i arb xss × (served_of plan i arb xss ≡ served)
 
 -- all of a list are right
@@ -185,7 +190,7 @@ holding position a b = record { position = position; pending = counts a b }
 
 -- a step that serves this client, or 0, with so many turned away, and leaves this record
 abbrev pub serving : ℕ → List ℕ → Arbiter → Stepped
-serving client turned next = record { served = record { answer = Given client; turned = turned }; next = next }
+serving client turned next = record { served = record { client = client; turned = turned }; next = next }
 
 -- the record at this position of a plan with one client, who has none pending
 abbrev pub empty : ℕ → Arbiter
@@ -236,9 +241,9 @@ questions =
     ∷ steps report_plan (holding 0 255 0) (1 ∷ 0 ∷ []) (serving 1 (counts 1 0) (holding 1 254 0))
     ∷ steps report_plan (holding 3 255 0) (1 ∷ 0 ∷ []) (serving 0 (counts 1 0) (holding 4 255 0))
     -- "a step 17, 18": position 8 is not below f, with a list of three arrivals as well; such a list alone
-    ∷ steps report_plan (holding 8 255 0) (1 ∷ 0 ∷ []) (refused_step 17 (holding 8 255 0))
-    ∷ steps report_plan (holding 8 255 0) (1 ∷ 0 ∷ 0 ∷ []) (refused_step 17 (holding 8 255 0))
-    ∷ steps report_plan (holding 7 255 0) (1 ∷ 0 ∷ 0 ∷ []) (refused_step 18 (holding 7 255 0))
+    ∷ step_refused report_plan (holding 8 255 0) (1 ∷ 0 ∷ []) 17
+    ∷ step_refused report_plan (holding 8 255 0) (1 ∷ 0 ∷ 0 ∷ []) 17
+    ∷ step_refused report_plan (holding 7 255 0) (1 ∷ 0 ∷ 0 ∷ []) 18
     -- P7's five slots from slot 3 on: a request comes in slot 3, is served in slot 5, the next comes in slot 6. Once is
     -- what demand 3 promises: (5 − 3) × 1/2
     ∷ one_pending (schedule_plan (requiring 1 2 3 1) p4) 0 (empty 3) (arriving (1 ∷ 0 ∷ 0 ∷ 1 ∷ 0 ∷ [])) 1

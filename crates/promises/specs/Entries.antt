@@ -1,5 +1,5 @@
 -- The table of demand 1: the public entries of all crates, C's functions with them, and the row of each.
-use Rattle.records.specs.Entry.{Entry}
+use Rattle.records.specs.Entry.{Entry, Plain, ValueOf}
 use Rattle.records.specs.Entries as records
 use Rattle.plan.specs.Entries as plan
 use Rattle.stream.specs.Entries as stream
@@ -11,13 +11,13 @@ use Rattle.text.specs.Entries as text
 use Rattle.listing.specs.Entries as listing
 use Rattle.capi.specs.Entries as capi
 
--- the entries, a function of a crate each
-pub data Name : Type 0 where
-  records::or_else : Name
-  records::check_range : Name
+-- the entries, a function of a crate each; one that is generic stands for each type that it may be called with
+pub data Name : Type 2 where
+  records::or_else : Plain → Name
+  records::check_range : Plain → Name
   records::wide : Name
   records::kind_at : Name
-  records::check_record : Name
+  records::check_record : Plain → Name
   records::check_over : Name
   plan::no_client : Name
   plan::no_plan : Name
@@ -56,11 +56,11 @@ pub data Name : Type 0 where
 
 -- what is handed in to each, what it refuses, and what comes back
 abbrev pub entry : Name → Entry
-entry Name.records::or_else = records.or_else_entry
-entry Name.records::check_range = records.range_entry
+entry (Name.records::or_else E) = records.or_else_entry (ValueOf E)
+entry (Name.records::check_range E) = records.range_entry (ValueOf E)
 entry Name.records::wide = records.wide_entry
 entry Name.records::kind_at = records.kind_entry
-entry Name.records::check_record = records.record_entry
+entry (Name.records::check_record E) = records.record_entry (ValueOf E)
 entry Name.records::check_over = records.over_entry
 entry Name.plan::no_client = plan.no_client_entry
 entry Name.plan::no_plan = plan.no_plan_entry

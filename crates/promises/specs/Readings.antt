@@ -1,24 +1,29 @@
 -- Streams and what reading each gives, worked out by hand from document 01: two plans, every refusal number of reading,
 -- and which comes first where two apply. `worked` in proofs/Worked.antt computes them all.
-use Rattle.std.specs.Prelude.{List, [], ◌∷◌, ◌++◌, ℕ, replicate}
-use Rattle.records.specs.declared.Outcome.TheVariants.{Fine, Refused}
+use Rattle.std.specs.Prelude.{List, [], ◌∷◌, ◌++◌, ℕ, Result, Ok, Err, replicate}
+use Rattle.records.specs.declared.refusal.At.{At}
+use Rattle.records.specs.declared.refusal.Refusal.{Refusal}
+use Rattle.records.specs.Refusal.{number}
 use Rattle.plan.specs.declared.Plan.{Plan}
-use Rattle.plan.specs.Plan.{no_client, no_plan}
-use Rattle.stream.specs.declared.Reading.{Reading}
+use Rattle.plan.specs.Plan.{no_client}
+
+-- what a reading gives, its refusal as document 01 writes it: "A refused read returns the number, the offset"
+abbrev pub gives : Result Plan (At Refusal) → Result Plan (ℕ × ℕ)
+gives (Ok plan) = Ok plan
+gives (Err refused) = Err (number refused.why, refused.offset)
 
 -- a stream, and what reading it gives
 pub record Example : Type 0 where
   pub stream : List ℕ
-  pub reading : Reading
+  pub reading : Result Plan (ℕ × ℕ)
 
 -- nothing is refused, and the stream's plan is this one
 abbrev pub read_as : List ℕ → Plan → Example
-read_as s plan = record { stream = s; reading = record { outcome = Fine; plan = plan } }
+read_as s plan = record { stream = s; reading = Ok plan }
 
--- "A refused read returns the number, the offset .., and a plan with every number 0"
+-- the read is refused with this number, at this offset
 abbrev pub refused_with : List ℕ → (number offset : ℕ) → Example
-refused_with s number offset =
-    record { stream = s; reading = record { outcome = Refused number offset; plan = no_plan } }
+refused_with s number offset = record { stream = s; reading = Err (number, offset) }
 
 -- a head: f 2, n 1
 abbrev pub head : List ℕ

@@ -1,11 +1,12 @@
 -- The rows of `records` hold, and are their entries' own contracts.
 -- Assumes nothing.
-use mathlib.Core.Path.{◌≡◌, refl, sym, ap, ◌∙◌}
-use mathlib.Core.List.{[], ◌∷◌}
+use mathlib.Core.Path.{◌≡◌, refl, sym, ap, subst, ◌∙◌}
+use mathlib.Core.List.{List, [], ◌∷◌, Mem, not-mem-nil}
+use Prim.Native.Nat.{ℕ}
 use lib.ListN.{get_or}
 use Rattle.records.specs.First.{range_check, or_else}
 use Rattle.records.specs.Record.{record_check, over_check}
-use Rattle.records.specs.Entry.{Tight, contract, Tied}
+use Rattle.records.specs.Entry.{Tight, contract, Plain, ValueOf, Tied}
 use Rattle.records.specs.Entries.{or_else_entry, range_entry, wide_entry, kind_entry, record_entry, over_entry}
 use Rattle.records.proofs.Refusals.{over_gives}
 use Rattle.records.proofs.Entry.{tight_finds, tight_always, tight_equal, tie}
@@ -16,17 +17,25 @@ use Rattle.records.proofs.kind_at.Reads as kind_at
 use Rattle.records.proofs.check_record.Reads as check_record
 use Rattle.records.proofs.check_over.Reads as check_over
 
-pub or_else_tight : Tight or_else_entry
-or_else_tight = tight_equal or_else
+-- what a call asks of the lifetimes in such a type: there are none
+none_lives : (plain : Plain) (lives : List ℕ) (x : ℕ) → Mem x plain.type.lives → Mem x lives
+none_lives plain lives x m = absurd (not-mem-nil (subst (Mem x) plain.lives m))
 
-pub or_else_tied : Tied or_else_entry (contract or_else.Pre or_else.Post)
-or_else_tied = tie (λ a. a.0) (λ a. a.1.0) (λ r z. r) (λ κs a. tt) (λ κs a r z. refl)
+pub or_else_tight : (E : Type 0) → Tight (or_else_entry E)
+or_else_tight E = tight_equal or_else
 
-pub range_tight : Tight range_entry
-range_tight = tight_equal (λ x more. range_check x more.0 more.1)
+pub or_else_tied : (p : Plain)
+    → Tied (or_else_entry (ValueOf p)) (contract (or_else.Pre p.type p.laws p.copied p.cloned p.methods)
+    (or_else.Post p.type p.laws p.copied p.cloned p.methods))
+or_else_tied p = tie (λ a. a.0) (λ a. a.1.0) (λ r z. r) (λ κs a. none_lives p _) (λ κs a r z. refl)
 
-pub range_tied : Tied range_entry (contract check_range.Pre check_range.Post)
-range_tied = tie (λ a. a.0) (λ a. (a.1.0, a.1.1.0)) (λ r z. r) (λ κs a. tt) (λ κs a r z. refl)
+pub range_tight : (E : Type 0) → Tight (range_entry E)
+range_tight E = tight_equal (λ x more. range_check x more.0 more.1)
+
+pub range_tied : (p : Plain)
+    → Tied (range_entry (ValueOf p)) (contract (check_range.Pre p.type p.laws p.copied p.cloned p.methods)
+    (check_range.Post p.type p.laws p.copied p.cloned p.methods))
+range_tied p = tie (λ a. a.0) (λ a. (a.1.0, a.1.1.0)) (λ r z. r) (λ κs a. none_lives p _) (λ κs a r z. refl)
 
 pub wide_tight : Tight wide_entry
 wide_tight = tight_always _ (λ x more r r' is is'. is.0 ∙ sym is'.0)
@@ -40,12 +49,15 @@ kind_tight = tight_equal (λ s at. get_or s at 0)
 pub kind_tied : Tied kind_entry (contract kind_at.Pre kind_at.Post)
 kind_tied = tie (λ a. a.0.now) (λ a. a.1.0) (λ r z. r) (λ κs a. tt) (λ κs a r z. refl)
 
-pub record_tight : Tight record_entry
-record_tight = tight_equal (λ s more. record_check s more.0 more.1 more.2)
+pub record_tight : (E : Type 0) → Tight (record_entry E)
+record_tight E = tight_equal (λ s more. record_check s more.0 more.1 more.2 more.3)
 
-pub record_tied : Tied record_entry (contract check_record.Pre check_record.Post)
-record_tied =
-    tie (λ a. a.0.now) (λ a. (a.1.0, a.1.1.0, a.1.1.1.0)) (λ r z. r) (λ κs a. tt) (λ κs a r z. refl)
+pub record_tied : (p : Plain)
+    → Tied (record_entry (ValueOf p)) (contract (check_record.Pre p.type p.laws p.copied p.cloned p.methods)
+    (check_record.Post p.type p.laws p.copied p.cloned p.methods))
+record_tied p =
+    tie (λ a. a.0.now) (λ a. (a.1.0, a.1.1.0, a.1.1.1.0, a.1.1.1.1.0)) (λ r z. r) (λ κs a. none_lives p _)
+    (λ κs a r z. refl)
 
 pub over_tight : Tight over_entry
 over_tight =

@@ -1,15 +1,14 @@
--- What every row of demand 1's table has for the asking: of an entry that says a value or a number, of one whose
+-- What every row of demand 1's table has for the asking: of an entry that says a value or a refusal, of one whose
 -- contract fixes the reply as a value, of one that returns what a check finds, and of one that refuses nothing.
 -- Assumes nothing.
 use mathlib.Core.Path.{◌≡◌, refl, sym, ap, subst, ◌∙◌}
 use mathlib.Core.Bool.{false}
 use mathlib.Core.List.{List}
 use Prim.Native.Nat.{ℕ}
-use Rattle.records.specs.First.{number_of, offset_of, among, Gives}
-use Rattle.records.specs.Said.{Said, refused, Answers}
+use Rattle.records.specs.declared.refusal.Refusal.{Refusal}
+use Rattle.records.specs.First.{Outcome, Fine, refuse, number_of, offset_of, among, Gives}
+use Rattle.records.specs.Said.{Said, Answers}
 use Rattle.records.specs.Entry.{Entry, Tight, Contract, Tied, says, finds, always}
-use Rattle.records.specs.declared.Outcome.{Outcome}
-use Rattle.records.specs.declared.Outcome.TheVariants.{Fine, Refused}
 use Rattle.records.proofs.Checks.{not_fine}
 use Rattle.records.proofs.Refusals.{gives_fine}
 use Rattle.records.proofs.Said.{answers_once, answers_number, answers_refused}
@@ -19,24 +18,22 @@ pub both : {A B : Type 0} {r r' : A × B} → r.0 ≡ r'.0 → r.1 ≡ r'.1 → 
 both p q = λ i. (p i, q i)
 
 -- outside reading the offset is 0
-pub offset_none : (o : Outcome) {k offset : ℕ} → offset_of o ≡ 0 → o ≡ Refused k offset → o ≡ Refused k 0
-offset_none o {k} h e = e ∙ ap (Refused k) (sym (ap offset_of e) ∙ h)
+pub offset_none : (o : Outcome) {why : Refusal} {offset : ℕ} → offset_of o ≡ 0 → o ≡ refuse why offset
+    → o ≡ refuse why 0
+offset_none o {why} h e = e ∙ ap (refuse why) (sym (ap offset_of e) ∙ h)
 
--- a contract of the shape of `Answers`: two replies that say the same are equal, two values coincide, and the same is
--- answered of what is the same
-pub tight_says : {U X A R : Type 0} (Same : U → U → Type 0) (Is : U → X → A → Type 0) (check : U → X → Outcome)
-    (ks : List ℕ) (say : R → Said A) (refuse : ℕ → R) → ((k : ℕ) → say (refuse k) ≡ refused k)
-    → ((r r' : R) → say r ≡ say r' → r ≡ r') → ((u : U) (x : X) (a b : A) → Is u x a → Is u x b → a ≡ b)
+-- a contract of the shape of `Answers`: two values coincide, and the same is answered of what is the same
+pub tight_says : {U X A : Type 0} (Same : U → U → Type 0) (Is : U → X → A → Type 0) (check : U → X → Outcome)
+    (ks : List ℕ) → ((u : U) (x : X) (a b : A) → Is u x a → Is u x b → a ≡ b)
     → ((u : U) (x : X) → Gives ks (check u x)) → among 0 ks ≡ false
-    → ((u u' : U) → Same u u' → (x : X) (r : R) → Answers (check u x) (Is u x) (say r)
-    → Answers (check u' x) (Is u' x) (say r))
-    → Tight (says Same (λ u x r. Answers (check u x) (Is u x) (say r)) check ks say refuse)
-tight_says Same Is check ks say refuse right alike one gives nonzero same =
+    → ((u u' : U) → Same u u' → (x : X) (r : Said A) → Answers (check u x) (Is u x) r
+    → Answers (check u' x) (Is u' x) r)
+    → Tight (says Same (λ u x r. Answers (check u x) (Is u x) r) check ks)
+tight_says Same Is check ks one gives nonzero same =
     record {
-      once = λ u x r r' is is'. alike r r' (answers_once (check u x) (Is u x) (one u x) (say r) (say r') is is');
-      number = λ u x r. answers_number (check u x) (Is u x) (say r);
-      refused = λ u x r k offset is e.
-          alike r (refuse k) (answers_refused (check u x) (Is u x) (say r) is e ∙ sym (right k));
+      once = λ u x r r' is is'. answers_once (check u x) (Is u x) (one u x) r r' is is';
+      number = λ u x r. answers_number (check u x) (Is u x) r;
+      refused = λ u x r why offset is e. answers_refused (check u x) (Is u x) r is e;
       numbers = gives;
       nonzero = nonzero;
       unread = same;
@@ -47,15 +44,16 @@ module _ (e : Entry) where
   pub tight_fixed : (value : e.Subject → e.More → e.Reply)
       → ((u : e.Subject) (x : e.More) (r : e.Reply) → e.Is u x r → r ≡ value u x)
       → ((u : e.Subject) (x : e.More) → e.number (value u x) ≡ number_of (e.check u x))
-      → ((u : e.Subject) (x : e.More) (k offset : ℕ) → e.check u x ≡ Refused k offset
-      → e.Refuses x k offset (value u x))
+      → ((u : e.Subject) (x : e.More) (why : Refusal) (offset : ℕ) → e.check u x ≡ refuse why offset
+      → e.Refuses x why offset (value u x))
       → ((u : e.Subject) (x : e.More) → Gives e.numbers (e.check u x)) → among 0 e.numbers ≡ false
       → ((u u' : e.Subject) → e.Same u u' → (x : e.More) (r : e.Reply) → e.Is u x r → e.Is u' x r) → Tight e
   tight_fixed value fixed number stops gives nonzero same =
       record {
         once = λ u x r r' is is'. fixed u x r is ∙ sym (fixed u x r' is');
         number = λ u x r is. ap e.number (fixed u x r is) ∙ number u x;
-        refused = λ u x r k offset is h. subst (e.Refuses x k offset) (sym (fixed u x r is)) (stops u x k offset h);
+        refused = λ u x r why offset is h.
+            subst (e.Refuses x why offset) (sym (fixed u x r is)) (stops u x why offset h);
         numbers = gives;
         nonzero = nonzero;
         unread = same;
@@ -70,7 +68,8 @@ module _ (e : Entry) where
   )
 
 pub tight_finds : {U X : Type 0} (Same : U → U → Type 0) (at : ℕ → ℕ) (check : U → X → Outcome) (ks : List ℕ)
-    → ((u : U) (x : X) (k offset : ℕ) → check u x ≡ Refused k offset → check u x ≡ Refused k (at offset))
+    → ((u : U) (x : X) (why : Refusal) (offset : ℕ) → check u x ≡ refuse why offset
+    → check u x ≡ refuse why (at offset))
     → ((u : U) (x : X) → Gives ks (check u x)) → among 0 ks ≡ false
     → ((u u' : U) → Same u u' → (x : X) → check u x ≡ check u' x) → Tight (finds Same at check ks)
 tight_finds Same at check ks stops gives nonzero same =
@@ -83,7 +82,7 @@ tight_always Is one =
     record {
       once = one;
       number = λ u x r is. refl;
-      refused = λ u x r k offset is e. not_fine (sym e);
+      refused = λ u x r why offset is e. not_fine (sym e);
       numbers = λ u x. tt;
       nonzero = refl;
       unread = λ u u' e x r is. subst (λ v. Is v x r) e is;

@@ -8,7 +8,8 @@ use native.Mathlib.Omega.{arith}
 use lib.ListN.{length, drop, set, length-append}
 use lib.Seq.{sets, sets-eq, length-sets}
 use Rattle.records.specs.Pieces.{many, firsts}
-use Rattle.records.specs.Put.{Put}
+use Rattle.records.specs.declared.output.Output.{Output}
+use Rattle.records.specs.Put.{Put, Adds}
 use Rattle.records.proofs.Lists.{many_more, firsts_more}
 
 sets_append : (l : List ℕ) (i : ℕ) (a b : List ℕ) → sets l i (a ++ b) ≡ sets (sets l i a) (i + length a) b
@@ -36,15 +37,6 @@ then {o₀} {o₁} {o₂} {s} {t} {a₀} {a₁} {a₂} p q =
           ∙ sym (sets_append o₀ a₀ s t);
     }
 
--- one turn of a loop that puts pieces, or single bytes
-pub then_piece : {o₀ o₁ o₂ : List ℕ} {a₀ a₁ a₂ : ℕ} (g : ℕ → List ℕ) (i : ℕ) → Put o₀ a₀ (many g i) o₁ a₁
-    → Put o₁ a₁ (g i) o₂ a₂ → Put o₀ a₀ (many g (i + 1)) o₂ a₂
-then_piece g i p q = rw many_more (then p q)
-
-pub then_one : {o₀ o₁ o₂ : List ℕ} {a₀ a₁ a₂ : ℕ} (f : ℕ → ℕ) (i : ℕ) → Put o₀ a₀ (firsts f i) o₁ a₁
-    → Put o₁ a₁ (f i ∷ []) o₂ a₂ → Put o₀ a₀ (firsts f (i + 1)) o₂ a₂
-then_one f i p q = rw firsts_more (then p q)
-
 -- the lent output keeps its length
 pub put_length : {o₀ o₁ t : List ℕ} {a r : ℕ} → Put o₀ a t o₁ r → length o₁ ≡ length o₀
 put_length {o₀} {o₁} {t} {a} p = ap length p.stored ∙ length-sets o₀ a t
@@ -54,3 +46,22 @@ pub put_front : {o₀ o₁ t : List ℕ} {r : ℕ} → Put o₀ 0 t o₁ r → l
     → o₁ ≡ t ++ drop (length t) o₀
 put_front {o₀} {o₁} {t} p h =
     p.stored ∙ sets-eq t o₀ 0 (omega arith) ∙ ap (λ (k : ℕ). t ++ drop k o₀) (zero-add (length t))
+
+-- ---- an output
+
+-- nothing added
+pub adds_none : (o : Output) → Adds o [] o
+adds_none o = record { put = none o.lent.now o.at; long = refl; same = refl }
+
+-- bytes added, and then others
+pub adds_then : {o₀ o₁ o₂ : Output} {s t : List ℕ} → Adds o₀ s o₁ → Adds o₁ t o₂ → Adds o₀ (s ++ t) o₂
+adds_then p q = record { put = then p.put q.put; long = q.long ∙ p.long; same = q.same ∙ p.same }
+
+-- one turn of a loop that adds pieces, or single bytes
+pub adds_piece : {o₀ o₁ o₂ : Output} (g : ℕ → List ℕ) (i : ℕ) → Adds o₀ (many g i) o₁ → Adds o₁ (g i) o₂
+    → Adds o₀ (many g (i + 1)) o₂
+adds_piece g i p q = rw many_more (adds_then p q)
+
+pub adds_single : {o₀ o₁ o₂ : Output} (f : ℕ → ℕ) (i : ℕ) → Adds o₀ (firsts f i) o₁ → Adds o₁ (f i ∷ []) o₂
+    → Adds o₀ (firsts f (i + 1)) o₂
+adds_single f i p q = rw firsts_more (adds_then p q)

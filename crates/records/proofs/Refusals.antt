@@ -9,20 +9,21 @@ use native.Mathlib.Omega.{arith}
 use lib.Dec.{ltb, leb, eqb}
 use lib.ListN.{length}
 use borrow.Author.Tests.{eqb-true, leb-false}
-use Rattle.records.specs.Refusal as refusal
-use Rattle.records.specs.First.{pick, between, unless, range_check, or_else, first_of, number_of, offset_of, among}
-use Rattle.records.specs.First.{Gives}
-use Rattle.records.specs.Record.{record_check, over_check}
-use Rattle.records.specs.declared.Outcome.{Outcome}
-use Rattle.records.specs.declared.Outcome.TheVariants.{Fine, Refused}
+use Rattle.std.specs.Prelude.{Result, Ok, Err}
+use Rattle.records.specs.declared.refusal.Refusal.{Refusal}
+use Rattle.records.specs.declared.refusal.Refusal.TheVariants as refusal
+use Rattle.records.specs.Refusal.{number}
+use Rattle.records.specs.First.{Outcome, Fine, pick, between, unless, range_check, or_else, first_of, number_of}
+use Rattle.records.specs.First.{offset_of, among, Gives}
+use Rattle.records.specs.Record.{placed, record_check, over_check}
 use Rattle.records.proofs.Checks.{false_true, both_true}
 
 -- ---- any property of what checks find
 
 -- the second check is reached where the first passes
 pub or_reached : (P : Outcome → Type 0) (x y : Outcome) → P x → (x ≡ Fine → P y) → P (or_else x y)
-or_reached P Fine y p q = q refl
-or_reached P (Refused k offset) y p q = p
+or_reached P (Ok u) y p q = q refl
+or_reached P (Err refused) y p q = p
 
 pub or_each : (P : Outcome → Type 0) (x y : Outcome) → P x → P y → P (or_else x y)
 or_each P x y p q = or_reached P x y p (λ e. q)
@@ -40,13 +41,15 @@ first_each P z g h n = first_reached P z g n (λ i l e. h i)
 
 -- ---- numbers
 
-pub unless_gives : (ks : List ℕ) (b : Bool) (k offset : ℕ) → among k ks ≡ true → Gives ks (unless b k offset)
-unless_gives ks true k offset h = tt
-unless_gives ks false k offset h = h
+pub unless_gives : (ks : List ℕ) (b : Bool) (why : Refusal) (offset : ℕ) → among (number why) ks ≡ true
+    → Gives ks (unless b why offset)
+unless_gives ks true why offset h = tt
+unless_gives ks false why offset h = h
 
-pub range_gives : (ks : List ℕ) (x high k : ℕ) → among k ks ≡ true → Gives ks (range_check x high k)
+pub range_gives : (ks : List ℕ) (x high : ℕ) (why : Refusal) → among (number why) ks ≡ true
+    → Gives ks (range_check x high why)
 unfolding range_check
-range_gives ks x high k h = unless_gives ks (between 1 x high) k 0 h
+range_gives ks x high why h = unless_gives ks (between 1 x high) why 0 h
 
 among_by : (b : Bool) {x y : Bool} → (x ≡ true → y ≡ true) → pick b true x ≡ true → pick b true y ≡ true
 among_by true f h = refl
@@ -66,9 +69,9 @@ among_right k (x ∷ a) b h = among_rest (eqb k x) (among_right k a b h)
 
 -- the numbers of two checks, one after the other
 pub or_gives : (a b : List ℕ) (x y : Outcome) → Gives a x → Gives b y → Gives (a ++ b) (or_else x y)
-or_gives a b Fine Fine p q = tt
-or_gives a b Fine (Refused k offset) p q = among_right k a b q
-or_gives a b (Refused k offset) y p q = among_left k a b p
+or_gives a b (Ok u) (Ok v) p q = tt
+or_gives a b (Ok u) (Err refused) p q = among_right (number refused.why) a b q
+or_gives a b (Err refused) y p q = among_left (number refused.why) a b p
 
 pub first_gives : (ks : List ℕ) (g : ℕ → Outcome) → ((i : ℕ) → Gives ks (g i)) → (n : ℕ) → Gives ks (first_of g n)
 first_gives ks = first_each (Gives ks) tt
@@ -90,55 +93,63 @@ among_all k (x ∷ a) b h e =
     one_among k x b (eqb k x) refl all.0 (among_all k a b all.1) e
 
 pub gives_more : (a b : List ℕ) → all_among a b ≡ true → (o : Outcome) → Gives a o → Gives b o
-gives_more a b h Fine g = tt
-gives_more a b h (Refused k offset) g = among_all k a b h g
+gives_more a b h (Ok u) g = tt
+gives_more a b h (Err refused) g = among_all (number refused.why) a b h g
 
 -- a number 0 says that nothing is refused
 pub gives_fine : (ks : List ℕ) → among 0 ks ≡ false → (o : Outcome) → Gives ks o → number_of o ≡ 0 → o ≡ Fine
-gives_fine ks none Fine h z = refl
-gives_fine ks none (Refused k offset) h z = false_true (sym none ∙ ap (λ (n : ℕ). among n ks) (sym z) ∙ h)
+gives_fine ks none (Ok u) h z = refl
+gives_fine ks none (Err refused) h z = false_true (sym none ∙ ap (λ (n : ℕ). among n ks) (sym z) ∙ h)
 
-class_gives : (ks : List ℕ) (class at : ℕ) (b : Bool) → eqb class 0 ≡ b → among class (0 ∷ ks) ≡ true
-    → Gives ks (unless b class at)
-class_gives ks class at true e h = tt
-class_gives ks class at false e h = rw e at h
+-- a kind that is not due refuses with one of these
+abbrev pub GivesDue : List ℕ → Result (Unit {0}) Refusal → Type 0
+GivesDue ks (Ok u) = Unit {0}
+GivesDue ks (Err why) = among (number why) ks ≡ true
 
-pub record_gives : (ks : List ℕ) (s : List ℕ) (at class body : ℕ) → among refusal.ended ks ≡ true
-    → among class (0 ∷ ks) ≡ true → Gives ks (record_check s at class body)
+placed_gives : (ks : List ℕ) (due : Result (Unit {0}) Refusal) (at : ℕ) → GivesDue ks due → Gives ks (placed due at)
+placed_gives ks (Ok u) at h = tt
+placed_gives ks (Err why) at h = h
+
+pub record_gives : (ks : List ℕ) (s : List ℕ) (at : ℕ) (due : Result (Unit {0}) Refusal) (body : ℕ)
+    → among (number refusal.Ended) ks ≡ true → GivesDue ks due → Gives ks (record_check s at due body refusal.Ended)
 unfolding record_check
-record_gives ks s at class body l h =
-    let begun : Outcome = unless (ltb at (length s)) refusal.ended (length s) in
-    let due : Outcome = unless (eqb class 0) class at in
-    let whole : Outcome = unless (ltb body (length s - at)) refusal.ended at in
-    or_each (Gives ks) begun (or_else due whole)
-    (unless_gives ks (ltb at (length s)) refusal.ended (length s) l)
-    (or_each (Gives ks) due whole (class_gives ks class at (eqb class 0) refl h)
-    (unless_gives ks (ltb body (length s - at)) refusal.ended at l))
+record_gives ks s at due body l h =
+    let begun : Outcome = unless (ltb at (length s)) refusal.Ended (length s) in
+    let whole : Outcome = unless (ltb body (length s - at)) refusal.Ended at in
+    or_each (Gives ks) begun (or_else (placed due at) whole)
+    (unless_gives ks (ltb at (length s)) refusal.Ended (length s) l)
+    (or_each (Gives ks) (placed due at) whole (placed_gives ks due at h)
+    (unless_gives ks (ltb body (length s - at)) refusal.Ended at l))
 
-pub over_gives : (ks : List ℕ) (s : List ℕ) (at : ℕ) → among refusal.followed ks ≡ true → Gives ks (over_check s at)
+pub over_gives : (ks : List ℕ) (s : List ℕ) (at : ℕ) → among (number refusal.Followed) ks ≡ true
+    → Gives ks (over_check s at)
 unfolding over_check
-over_gives ks s at h = unless_gives ks (leb (length s) at) refusal.followed at h
+over_gives ks s at h = unless_gives ks (leb (length s) at) refusal.Followed at h
 
 -- ---- offsets
 
-pub unless_within : (most : ℕ) (b : Bool) (k offset : ℕ) → offset ≤ most → offset_of (unless b k offset) ≤ most
-unless_within most true k offset h = omega arith
-unless_within most false k offset h = h
+pub unless_within : (most : ℕ) (b : Bool) (why : Refusal) (offset : ℕ) → offset ≤ most
+    → offset_of (unless b why offset) ≤ most
+unless_within most true why offset h = omega arith
+unless_within most false why offset h = h
 
-pub record_within : (s : List ℕ) (at class body : ℕ) → at ≤ length s
-    → offset_of (record_check s at class body) ≤ length s
+placed_within : (most : ℕ) (due : Result (Unit {0}) Refusal) (at : ℕ) → at ≤ most → offset_of (placed due at) ≤ most
+placed_within most (Ok u) at h = omega arith
+placed_within most (Err why) at h = h
+
+pub record_within : (s : List ℕ) (at : ℕ) (due : Result (Unit {0}) Refusal) (body : ℕ) → at ≤ length s
+    → offset_of (record_check s at due body refusal.Ended) ≤ length s
 unfolding record_check
-record_within s at class body h =
+record_within s at due body h =
     let In : Outcome → Type 0 = λ (o : Outcome). offset_of o ≤ length s in
-    let begun : Outcome = unless (ltb at (length s)) refusal.ended (length s) in
-    let due : Outcome = unless (eqb class 0) class at in
-    let whole : Outcome = unless (ltb body (length s - at)) refusal.ended at in
-    or_each In begun (or_else due whole) (unless_within (length s) (ltb at (length s)) refusal.ended (length s)
-    (omega arith))
-    (or_each In due whole (unless_within (length s) (eqb class 0) class at h)
-    (unless_within (length s) (ltb body (length s - at)) refusal.ended at h))
+    let begun : Outcome = unless (ltb at (length s)) refusal.Ended (length s) in
+    let whole : Outcome = unless (ltb body (length s - at)) refusal.Ended at in
+    or_each In begun (or_else (placed due at) whole)
+    (unless_within (length s) (ltb at (length s)) refusal.Ended (length s) (omega arith))
+    (or_each In (placed due at) whole (placed_within (length s) due at h)
+    (unless_within (length s) (ltb body (length s - at)) refusal.Ended at h))
 
-over_by : (n at : ℕ) (b : Bool) → leb n at ≡ b → offset_of (unless b refusal.followed at) ≤ n
+over_by : (n at : ℕ) (b : Bool) → leb n at ≡ b → offset_of (unless b refusal.Followed at) ≤ n
 over_by n at true e = omega arith
 over_by n at false e = omega (arith, leb-false n at e)
 
@@ -146,10 +157,10 @@ pub over_within : (s : List ℕ) (at : ℕ) → offset_of (over_check s at) ≤ 
 unfolding over_check
 over_within s at = over_by (length s) at (leb (length s) at) refl
 
-pub unless_offset : (b : Bool) (k : ℕ) → offset_of (unless b k 0) ≡ 0
-unless_offset true k = refl
-unless_offset false k = refl
+pub unless_offset : (b : Bool) (why : Refusal) → offset_of (unless b why 0) ≡ 0
+unless_offset true why = refl
+unless_offset false why = refl
 
-pub range_offset : (x high k : ℕ) → offset_of (range_check x high k) ≡ 0
+pub range_offset : (x high : ℕ) (why : Refusal) → offset_of (range_check x high why) ≡ 0
 unfolding range_check
-range_offset x high k = unless_offset (between 1 x high) k
+range_offset x high why = unless_offset (between 1 x high) why

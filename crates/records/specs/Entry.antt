@@ -1,10 +1,13 @@
 -- Demand 1 for one public entry: "Every stream, table, arbiter record and number handed in gets a defined reply". An
 -- entry is a row of a table: what is handed in, what it refuses, what comes back.
-use Rattle.std.specs.Prelude.{◌≡◌, false, List, [], map, ℕ}
-use Rattle.records.specs.First.{number_of, among, Gives}
+use Rattle.std.specs.Prelude.{◌≡◌, false, List, [], map, ℕ, Err}
+use Rattle.std.specs.declared.clone.Clone as clone
+use denote.RattleType.{RattleType}
+use denote.Param.Laws.{Laws, IsCopy}
+use mir.Syntax.{Dict}
+use Rattle.records.specs.declared.refusal.Refusal.{Refusal}
+use Rattle.records.specs.First.{Outcome, Fine, refuse, number_of, among, Gives}
 use Rattle.records.specs.Said.{Said, said_number}
-use Rattle.records.specs.declared.Outcome.{Outcome}
-use Rattle.records.specs.declared.Outcome.TheVariants.{Fine, Refused}
 
 pub record Entry : Type 1 where
   -- what it is asked about, and when two of these are the same: "Places past f .. and past n are ignored"
@@ -21,8 +24,8 @@ pub record Entry : Type 1 where
   pub numbers : List ℕ
   -- a reply's number, 0 where nothing is refused
   pub number : Reply → ℕ
-  -- a reply that refuses with this number and offset: "all other results 0", lent memory as it was
-  pub Refuses : More → (number offset : ℕ) → Reply → Type 0
+  -- a reply that refuses so and at this offset: "all other results 0", lent memory as it was
+  pub Refuses : More → (why : Refusal) (offset : ℕ) → Reply → Type 0
 
 -- ---- what holds of every row
 
@@ -32,8 +35,8 @@ pub record Tight (e : Entry) : Type 0 where
   -- refused exactly where the check refuses, with its number
   pub number : (u : e.Subject) (x : e.More) (r : e.Reply) → e.Is u x r → e.number r ≡ number_of (e.check u x)
   -- and then nothing else is returned or changed
-  pub refused : (u : e.Subject) (x : e.More) (r : e.Reply) (k offset : ℕ) → e.Is u x r
-      → e.check u x ≡ Refused k offset → e.Refuses x k offset r
+  pub refused : (u : e.Subject) (x : e.More) (r : e.Reply) (why : Refusal) (offset : ℕ)
+      → e.Is u x r → e.check u x ≡ refuse why offset → e.Refuses x why offset r
   -- "Each refusal has its number": one of these, and 0 is none of them
   pub numbers : (u : e.Subject) (x : e.More) → Gives e.numbers (e.check u x)
   pub nonzero : among 0 e.numbers ≡ false
@@ -70,22 +73,35 @@ pub record Tied (e : Entry) (c : Contract) : Type 1 where
   pub same : (κs : c.Lifetimes) (a : c.Arguments) (r : c.Result) (z : c.Last)
       → c.Post κs a r z ≡ e.Is (subject a) (more a) (reply r z)
 
+-- a type that a generic function may be called with, as the kit knows it: its values are copied, and hold no reference
+pub record Plain : Type 2 where
+  pub type : RattleType
+  pub laws : Laws type
+  pub copied : IsCopy type
+  pub cloned : clone.Ghosts type.Denot
+  pub methods : Dict
+  pub lives : type.lives ≡ []
+
+-- its values
+abbrev pub ValueOf : Plain → Type 0
+ValueOf plain = plain.type.Denot
+
 -- ---- rows of one shape
 
--- an entry that says a value or a number, and returns nothing besides
-abbrev pub says : {U X A R : Type 0} → (U → U → Type 0) → (U → X → R → Type 0) → (U → X → Outcome) → List ℕ
-    → (R → Said A) → (ℕ → R) → Entry
-says {U} {X} {A} {R} Same Is check numbers say refuse =
+-- an entry that says a value or why it is refused, and returns nothing besides
+abbrev pub says : {U X A : Type 0} → (U → U → Type 0) → (U → X → Said A → Type 0) → (U → X → Outcome) → List ℕ
+    → Entry
+says {U} {X} {A} Same Is check numbers =
     record {
       Subject = U;
       Same = Same;
       More = X;
-      Reply = R;
+      Reply = Said A;
       Is = Is;
       check = check;
       numbers = numbers;
-      number = λ r. said_number (say r);
-      Refuses = λ x k offset r. r ≡ refuse k;
+      number = said_number;
+      Refuses = λ x why offset r. r ≡ Err why;
     }
 
 -- an entry that returns what a check finds; `at` is the offset that it has, 0 outside reading
@@ -100,7 +116,7 @@ finds {U} {X} Same at check numbers =
       check = check;
       numbers = numbers;
       number = number_of;
-      Refuses = λ x k offset r. r ≡ Refused k (at offset);
+      Refuses = λ x why offset r. r ≡ refuse why (at offset);
     }
 
 -- an entry that refuses nothing
@@ -115,5 +131,5 @@ always {U} {X} {R} Is =
       check = λ u x. Fine;
       numbers = [];
       number = λ r. 0;
-      Refuses = λ x k offset r. ⊥;
+      Refuses = λ x why offset r. ⊥;
     }

@@ -1,8 +1,7 @@
 -- A record in a stream of bytes: one byte of kind, then a body (document 01, Plan stream).
-use Rattle.std.specs.Prelude.{List, [], ◌∷◌, ℕ, ◌+◌, ◌-◌, ◌*◌, ◌/◌, ◌%◌, ltb, leb, eqb, length, get_or}
-use Rattle.records.specs.Refusal as refusal
-use Rattle.records.specs.First.{unless, or_else}
-use Rattle.records.specs.declared.Outcome.{Outcome}
+use Rattle.std.specs.Prelude.{List, [], ◌∷◌, ℕ, ◌+◌, ◌-◌, ◌*◌, ◌/◌, ◌%◌, ltb, leb, length, get_or, Result, Ok, Err}
+use Rattle.records.specs.declared.refusal.Refusal.TheVariants as refusal
+use Rattle.records.specs.First.{Checked, Outcome, Fine, refuse, unless, or_else}
 
 -- "Numbers of two bytes have the high byte first": the bytes of a number
 abbrev pub be : ℕ → List ℕ
@@ -12,13 +11,18 @@ be x = x / 256 % 256 ∷ x % 256 ∷ []
 abbrev pub word : List ℕ → ℕ → ℕ
 word s at = get_or s at 0 * 256 + get_or s (at + 1) 0
 
--- "record by record: 1 (no kind byte), 2, 3, 1 (body short)": class is 0 for a kind that is due, else its refusal;
--- a missing kind byte is refused at the stream's length, all else at the record's kind byte
-unfoldable pub record_check : List ℕ → ℕ → ℕ → ℕ → Outcome
-record_check s at class body =
-    or_else (unless (ltb at (length s)) refusal.ended (length s))
-    (or_else (unless (eqb class 0) class at) (unless (ltb body (length s - at)) refusal.ended at))
+-- a refusal, if there is one, at this offset
+abbrev pub placed : {E : Type 0} → Result (Unit {0}) E → ℕ → Checked E
+placed (Ok u) offset = Fine
+placed (Err why) offset = refuse why offset
+
+-- "record by record: 1 (no kind byte), 2, 3, 1 (body short)": due says whether the kind is due, and else why not, ended
+-- is what 1 stands for; a missing kind byte is refused at the stream's length, all else at the record's kind byte
+unfoldable pub record_check : {E : Type 0} → List ℕ → ℕ → Result (Unit {0}) E → ℕ → E → Checked E
+record_check s at due body ended =
+    or_else (unless (ltb at (length s)) ended (length s))
+    (or_else (placed due at) (unless (ltb body (length s - at)) ended at))
 
 -- "bytes follow the end record": 4, at the first byte too many
 unfoldable pub over_check : List ℕ → ℕ → Outcome
-over_check s at = unless (leb (length s) at) refusal.followed at
+over_check s at = unless (leb (length s) at) refusal.Followed at

@@ -1,83 +1,87 @@
-// What all streams of records share, whatever their kinds: what a check finds and the first refusal of two, the record
-// due at a place, the bytes past the end. `inner` has what asks for room: words, and bytes put into a lent output.
+// What all streams of records share, whatever their kinds and whatever they are refused for: the first refusal of two
+// checks, the record due at a place, the bytes past the end. A check is a `Result`: nothing, or why it refuses and at
+// which offset. `refusal` has the refusals, `output` a lent output that bytes are put into, `inner` words of two bytes.
 #![tactic(auto)]
 
 pub mod inner; // inner.rt
+pub mod output; // output.rt
 pub mod refusal; // refusal.rt
 
 ghost use Rattle.std.specs.Prelude.{◌≡◌, ◌<◌, get_or};
 ghost use Rattle.records.specs.First.{or_else, range_check};
 ghost use Rattle.records.specs.Record.{record_check, over_check};
 
-// What a check finds: nothing, or a refusal's number and offset (0 where no stream is read).
-#[derive(Clone, Copy)]
-pub enum Outcome {
-    Fine,
-    Refused(u8, usize),
-}
+use refusal::{At, Refusal, Refused};
 
 // The first refusal of two checks.
-pub fn or_else(first: Outcome, second: Outcome) -> Outcome
+pub fn or_else<E: Copy>(first: Result<(), At<E>>, second: Result<(), At<E>>) -> Result<(), At<E>>
     ensures { result ≡ or_else first second }
 {
-    match first {
-        Outcome::Fine => second,
-        Outcome::Refused(number, offset) => Outcome::Refused(number, offset),
-    }
+    first.and(second)
 }
 
 // A number that is to be 1 to high, outside reading.
 #[tactic(auto, unfolding(crate::specs::First::range_check))]
-pub fn check_range(x: usize, high: usize, number: u8) -> Outcome
-    ensures { result ≡ range_check x high number }
+pub fn check_range<E: Copy>(x: usize, high: usize, why: E) -> Result<(), At<E>>
+    ensures { result ≡ range_check x high why }
 {
-    if x < 1 {
-        return Outcome::Refused(number, 0);
+    if x < 1 || high < x {
+        return Err(At { why, offset: 0 });
     }
-    if high < x {
-        return Outcome::Refused(number, 0);
-    }
-    Outcome::Fine
+    Ok(())
 }
 
 // A byte as a number that can be an index.
 pub fn wide(x: u8) -> usize
     ensures { (result ≡ x) × (result < 256) }
 {
-    x as usize
+    usize::from(x)
 }
 
 // The kind byte at a place, 0 past the end.
 pub fn kind_at(s: &[u8], at: usize) -> u8
     ensures { result ≡ get_or s.now at 0 }
 {
-    if s.len() <= at { 0 } else { s[at] }
+    s.get(at).copied().unwrap_or(0)
 }
 
-// A record at a place: its class is 0 where its kind is due, else the refusal; its body has this many bytes.
+// A record at a place: whether its kind is due there, and why not, is handed in; its body has this many bytes. One that
+// ends too soon is refused by `ended`.
 #[tactic(auto, unfolding(crate::specs::Record::record_check))]
-pub fn check_record(s: &[u8], at: usize, class: u8, body: usize) -> Outcome
-    ensures { result ≡ record_check s.now at class body }
+pub fn check_record<E: Copy>(
+    s: &[u8],
+    at: usize,
+    due: Result<(), E>,
+    body: usize,
+    ended: E,
+) -> Result<(), At<E>>
+    ensures { result ≡ record_check s.now at due body ended }
 {
     if s.len() <= at {
-        return Outcome::Refused(refusal::ENDED, s.len());
+        return Err(At {
+            why: ended,
+            offset: s.len(),
+        });
     }
-    if class != 0 {
-        return Outcome::Refused(class, at);
+    if let Err(why) = due {
+        return Err(At { why, offset: at });
     }
     if s.len() - at <= body {
-        return Outcome::Refused(refusal::ENDED, at);
+        return Err(At {
+            why: ended,
+            offset: at,
+        });
     }
-    Outcome::Fine
+    Ok(())
 }
 
 // Nothing follows the end record, whose next place is at.
 #[tactic(auto, unfolding(crate::specs::Record::over_check))]
-pub fn check_over(s: &[u8], at: usize) -> Outcome
+pub fn check_over(s: &[u8], at: usize) -> Result<(), Refused>
     ensures { result ≡ over_check s.now at }
 {
     if at < s.len() {
-        return Outcome::Refused(refusal::FOLLOWED, at);
+        return Err(Refusal::Followed.at(at));
     }
-    Outcome::Fine
+    Ok(())
 }

@@ -2,14 +2,14 @@
 -- idle slots, it owns more by what the filling gives, and the order is the same. On an idle table every table keeps the
 -- owners, so its mending is the search.
 -- Assumes nothing.
-use mathlib.Core.Path.{◌≡◌, refl, sym, ap, ◌∙◌}
-use mathlib.Core.Bool.{Bool, true, false}
+use mathlib.Core.Path.{◌≡◌, sym, ap, ◌∙◌}
 use mathlib.Core.List.{List}
 use Prim.Native.Nat.{ℕ, ◌+◌, ◌≤◌, ◌<◌}
 use native.Mathlib.Decide.{dec_lt}
 use native.Mathlib.Omega.{arith}
 use lib.ListN.{length, get_or, take, replicate, get_or-eq_default, get_or-replicate}
 use lib.Seq.{get_or-take}
+use Rattle.std.specs.Prelude.{Option, Some, None}
 use Rattle.frame.proofs.Within.{within_most}
 use Rattle.records.specs.Pieces.{padded}
 use Rattle.records.proofs.Lists.{firsts_same, take_padded, drop_padded}
@@ -31,8 +31,8 @@ use Rattle.search.proofs.Planting.{no_need_accepted, accepted_no_need}
 
 module _ (P Q : List ℕ → Type 0) (f n : ℕ) (there : (t : List ℕ) → Table f n t → P t → Q t)
     (back : (t : List ℕ) → Table f n t → Q t → P t) where
-  pub finds_same : (found : Bool) (owners : List ℕ) → Finds P f n found owners → Finds Q f n found owners
-  finds_same true owners h =
+  pub finds_same : (found : Option (List ℕ)) → Finds P f n found → Finds Q f n found
+  finds_same (Some owners) h =
       let best = h.0 in
       let alike : IsBest Q f n (take f owners) = record {
         table = best.table;
@@ -40,7 +40,7 @@ module _ (P Q : List ℕ → Type 0) (f n : ℕ) (there : (t : List ℕ) → Tab
         fewest = λ u t q. best.fewest u t (back u t q);
         least = λ u t q e. best.least u t (back u t q) e;
       } in (alike, h.1)
-  finds_same false owners h = (λ u t q. h.0 u t (back u t q), h.1)
+  finds_same None h = λ u t q. h u t (back u t q)
 
 -- ---- from fillings to tables
 
@@ -119,23 +119,17 @@ module _ (plan : Plan) (g : ℕ) (trees : List ℕ) (room : plan.f ≤ length pl
   none_mends none u t m = none (rest o u) (given u t m) (suits_all u t m)
 
   -- what was found is returned with 0 past f
-  pub mended : (found : Bool) (u : List ℕ) → found ≡ true
-      → BestOf (NoneInNeed trees plan.n) g plan.n found (take g u)
-      → Finds (Mends plan) plan.f plan.n true (padded (filled_at plan u) plan.f 64 0)
-  mended found u e best =
-      let right : IsBest (NoneInNeed trees plan.n) g plan.n (take g u) = rw e at best in
+  pub mended : (u : List ℕ) → BestOf (NoneInNeed trees plan.n) g plan.n (Some u)
+      → Finds (Mends plan) plan.f plan.n (Some (padded (filled_at plan u) plan.f 64 0))
+  mended u best =
       let same : filled plan u ≡ filled plan (take g u) =
       rw g= (firsts_same (filled_at plan u) (filled_at plan (take (idle_of plan) u)) plan.f (filled_front plan u)) in (
-        rw (take_padded (filled_at plan u) plan.f 64 0, same) (best_mends (take g u) right),
+        rw (take_padded (filled_at plan u) plan.f 64 0, same) (best_mends (take g u) best),
         drop_padded (filled_at plan u) plan.f 64 0,
       )
 
-  pub not_mended : (found : Bool) (u : List ℕ) → found ≡ false
-      → BestOf (NoneInNeed trees plan.n) g plan.n found (take g u)
-      → Finds (Mends plan) plan.f plan.n false (replicate 64 0)
-  not_mended found u e best =
-      let none : NoTable (NoneInNeed trees plan.n) g plan.n = rw e at best in
-      (none_mends none, refl)
+  pub not_mended : BestOf (NoneInNeed trees plan.n) g plan.n None → Finds (Mends plan) plan.f plan.n None
+  not_mended = none_mends
 
 -- ---- an idle table
 
@@ -157,8 +151,7 @@ module _ (f n : ℕ) (clients : List Client) where
   pub idle_slots : idle_of plan ≤ f
   idle_slots = within_most (own_of plan 0) (own_most plan.owners f 0) 0 f
 
-  pub mends_accepted : (found : Bool) (owners : List ℕ) → Finds (Mends plan) f n found owners
-      → Finds (AcceptedIn plan) f n found owners
+  pub mends_accepted : (found : Option (List ℕ)) → Finds (Mends plan) f n found → Finds (AcceptedIn plan) f n found
   mends_accepted =
       finds_same (Mends plan) (AcceptedIn plan) f n (λ t table mends. mends.accepted)
       (λ t table accepted. record { kept = λ x l owned. absurd (omega (arith, idle_owner x)); accepted = accepted })

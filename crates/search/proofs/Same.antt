@@ -2,20 +2,20 @@
 -- table is accepted just as well when it stands in the 64 places of a plan.
 -- Assumes nothing.
 use mathlib.Core.Path.{◌≡◌, refl}
-use mathlib.Core.Bool.{Bool}
 use mathlib.Core.List.{List}
 use Prim.Native.Nat.{ℕ, ◌<◌}
 use native.Mathlib.Omega.{arith}
-use lib.ListN.{take, replicate}
+use lib.ListN.{take}
 use lib.Seq.{get_or-take}
-use Rattle.records.specs.declared.Outcome.TheVariants.{Fine}
-use Rattle.records.proofs.Said.{beside_same}
+use Rattle.std.specs.Prelude.{Option}
+use Rattle.records.specs.First.{Fine}
+use Rattle.records.specs.Said.{Said}
+use Rattle.records.proofs.Said.{answers_same}
 use Rattle.plan.specs.declared.Plan.{Plan}
 use Rattle.plan.specs.Plan.{Same, SameRequired, with_table}
 use Rattle.plan.proofs.Laws.{requirements_same, required_back}
 use Rattle.judge.proofs.Same.{all_same}
-use Rattle.search.specs.declared.Searched.{Searched}
-use Rattle.search.specs.Search.{idle_plan, search_check, size_check, AcceptedIn, Finds, search_said, IsSearched}
+use Rattle.search.specs.Search.{idle_plan, search_check, size_check, AcceptedIn, Finds, IsSearched}
 use Rattle.search.proofs.Questions.{search_fine}
 use Rattle.search.proofs.Mending.{finds_same}
 
@@ -51,19 +51,17 @@ module _ (plan other : Plan) (same : SameRequired plan other) where
         owners = λ x l. refl;
       } in rw same.count at (all_same (with_table plan t) (with_table other t) tables f> 0 plan.n (omega arith) all)
 
-pub searched_same : (plan other : Plan) → SameRequired plan other → (r : Searched) → IsSearched plan r
+pub searched_same : (plan other : Plan) → SameRequired plan other → (r : Said (Option (List ℕ))) → IsSearched plan r
     → IsSearched other r
-searched_same plan other same r =
-    beside_same (replicate 64 0) (search_check_same plan other same) finds (search_said r.answer) r.owners
+searched_same plan other same = answers_same (search_check_same plan other same) finds
   where
     back : SameRequired other plan
     back = required_back plan other same
 
-    finds : search_check plan ≡ Fine → (found : Bool) (owners : List ℕ)
-        → Finds (AcceptedIn plan) plan.f plan.n found owners
-        → Finds (AcceptedIn other) other.f other.n found owners
-    finds fine found owners h =
+    finds : search_check plan ≡ Fine → (found : Option (List ℕ)) → Finds (AcceptedIn plan) plan.f plan.n found
+        → Finds (AcceptedIn other) other.f other.n found
+    finds fine found h =
         let f> = (search_fine plan fine).bounds.f_low in
         rw (same.frame, same.count) at
         (finds_same _ _ plan.f plan.n (λ t table. accepted_same plan other same t f>)
-        (λ t table. accepted_same other plan back t (rw same.frame at f>)) found owners h)
+        (λ t table. accepted_same other plan back t (rw same.frame at f>)) found h)

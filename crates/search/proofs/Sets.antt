@@ -10,7 +10,7 @@ use native.Mathlib.Nat.{mod-lt, pow-suc}
 use native.Mathlib.Numerals.{add-one}
 use native.Mathlib.Omega.{arith}
 use lib.Dec.{eqb}
-use lib.ListN.{length, get_or, take, drop, set, length-take, drop_of_length-le}
+use lib.ListN.{length, get_or, take, drop, set}
 use lib.Seq.{get_or-take, length-take-le, take-set-lt, set_split, drop_at}
 use borrow.Author.Tests.{eqb-true, ne_eqb}
 use Rattle.frame.specs.Frame.{within}
@@ -73,9 +73,6 @@ drop_set owners g j owner l h =
     ap (drop j) (take-set-lt g owners j owner l ∙ set_split (take g owners) j owner (omega arith))
     ∙ drop_at (take j (take g owners)) (owner ∷ drop (suc j) (take g owners)) j front
 
-pub leads_none : (c g node : ℕ) (owners : List ℕ) → node_from c node (drop g (take g owners)) ≡ node
-leads_none c g node owners = rw (drop_of_length-le (take g owners) {i = g} (omega (arith, length-take g owners)))
-
 pub leads_more : (c g node : ℕ) (owners : List ℕ) (above j owner : ℕ) → j < g → g ≤ length owners
     → child_of c (above / 2) owner ≡ above → node_from c above (drop (suc j) (take g owners)) ≡ node
     → node_from c (above / 2) (drop j (take g (set owners j owner))) ≡ node
@@ -106,11 +103,16 @@ idle_before plan x l e =
     let here : own (0 + x) ≡ 1 = rw (← place_first plan.f x l, e) in
     omega (arith, within_more own 0 x, within_grows own 0 (x + 1) plan.f (omega arith))
 
--- what the loop stores
-pub slot_at : (owners : List ℕ) (f : ℕ) (filling : List ℕ) (x j r : ℕ) → j ≡ within (own_in owners f 0) 0 x
-    → r ≡ pick (eqb (get_or owners x 0) 0) (get_or filling j 0) (get_or owners x 0) → r ≡ filled_in owners f filling x
+-- what the loop stores at an idle slot, and at an owned one
+pub slot_idle : (owners : List ℕ) (f : ℕ) (filling : List ℕ) (x j : ℕ) → j ≡ within (own_in owners f 0) 0 x
+    → get_or owners x 0 ≡ 0 → get_or filling j 0 ≡ filled_in owners f filling x
 unfolding filled_in
-slot_at owners f filling x j r e h = h ∙ rw e
+slot_idle owners f filling x j e idle = rw (e, idle)
+
+pub slot_owned : (owners : List ℕ) (f : ℕ) (filling : List ℕ) (x : ℕ) → eqb (get_or owners x 0) 0 ≡ false
+    → get_or owners x 0 ≡ filled_in owners f filling x
+unfolding filled_in
+slot_owned owners f filling x owned = rw owned
 
 -- an owned slot keeps its owner
 pub slot_kept : (plan : Plan) (u : List ℕ) (x : ℕ) → 0 < owner_of plan x → filled_at plan u x ≡ owner_of plan x

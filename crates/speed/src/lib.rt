@@ -5,12 +5,8 @@
 
 pub mod inner; // inner.rt
 
-use figures::FigureAnswer;
-use inner::{arbiter_in, clients_in, number_of, plan_in, put_clients, tell_step, verdict_code};
-use judge::JudgeAnswer;
-use records::Outcome;
-use search::SearchAnswer;
-use stream::{LONGEST, WriteAnswer};
+use inner::{arbiter_in, clients_in, number_of, plan_in, put_clients, put_step, steps};
+use stream::LONGEST;
 use text::PAGE;
 
 // Reads a stream: the plan's clients and owners, and f, n and the refusal's offset.
@@ -21,18 +17,14 @@ pub extern "C" fn speed_read(
     owners: &mut [u8; 64],
     sizes: &mut [usize; 3],
 ) -> usize {
-    let reading = stream::read(s);
-    let outcome = reading.outcome;
-    let plan = reading.plan;
-    let clients = plan.clients;
-    let table = plan.owners;
-    put_clients(words, clients);
-    *owners = table;
-    *sizes = [plan.f, plan.n, 0];
-    if let Outcome::Refused(_, offset) = outcome {
-        sizes[2] = offset;
-    }
-    number_of(outcome)
+    let (number, offset, plan) = match stream::read(s) {
+        Ok(plan) => (0, 0, plan),
+        Err(refused) => (number_of(refused.why), refused.offset, plan::no_plan()),
+    };
+    put_clients(words, &plan.clients);
+    *owners = plan.owners;
+    *sizes = [plan.f, plan.n, offset];
+    number
 }
 
 // Writes a stream: its length, or 0.
@@ -44,18 +36,16 @@ pub extern "C" fn speed_write(
     owners: &[u8; 64],
     out: &mut [u8; LONGEST],
 ) -> usize {
-    let plan = plan_in(f, n, words, owners);
-    let written = stream::write(plan, out);
-    match written {
-        WriteAnswer::Given(size) => size,
-        WriteAnswer::Refused(_) => 0,
-    }
+    stream::write(plan_in(f, n, words, owners), out).unwrap_or(0)
 }
 
 // Checks a plan.
 #[unsafe(no_mangle)]
 pub extern "C" fn speed_check(f: usize, n: usize, words: &[u16; 32], owners: &[u8; 64]) -> usize {
-    number_of(plan::check(plan_in(f, n, words, owners)))
+    match plan::check(plan_in(f, n, words, owners)) {
+        Ok(()) => 0,
+        Err(refused) => number_of(refused.why),
+    }
 }
 
 // A client's m and L.
@@ -68,18 +58,12 @@ pub extern "C" fn speed_figures(
     client: usize,
     figure: &mut [usize; 2],
 ) -> usize {
-    let plan = plan_in(f, n, words, owners);
-    let figures = figures::figure_of(plan, client);
-    match figures {
-        FigureAnswer::Given(given) => {
-            *figure = [given.slots, given.scaled];
-            0
-        },
-        FigureAnswer::Refused(number) => {
-            *figure = [0, 0];
-            number as usize
-        },
-    }
+    let (number, numbers) = match figures::figure_of(plan_in(f, n, words, owners), client) {
+        Ok(found) => (0, [found.slots, found.scaled]),
+        Err(why) => (number_of(why), [0; 2]),
+    };
+    *figure = numbers;
+    number
 }
 
 // Judges a plan: client, verdict (0 ok, 1 rate, 2 late), start, length.
@@ -91,24 +75,12 @@ pub extern "C" fn speed_judge(
     owners: &[u8; 64],
     found: &mut [usize; 4],
 ) -> usize {
-    let plan = plan_in(f, n, words, owners);
-    let judged = judge::judge(plan);
-    match judged {
-        JudgeAnswer::Given(given) => {
-            let verdict = given.verdict;
-            *found = [
-                given.client,
-                verdict_code(verdict),
-                given.start,
-                given.length,
-            ];
-            0
-        },
-        JudgeAnswer::Refused(number) => {
-            *found = [0, 0, 0, 0];
-            number as usize
-        },
-    }
+    let (number, numbers) = match judge::judge(plan_in(f, n, words, owners)) {
+        Ok(j) => (0, [j.client, j.verdict as usize, j.start, j.length]),
+        Err(why) => (number_of(why), [0; 4]),
+    };
+    *found = numbers;
+    number
 }
 
 // Searches: 0 where a table is found, 1 for none, else the refusal's number, which is above 1.
@@ -119,16 +91,13 @@ pub extern "C" fn speed_search(
     words: &[u16; 32],
     owners: &mut [u8; 64],
 ) -> usize {
-    let clients = clients_in(words);
-    let searched = search::search(f, n, clients);
-    let table = searched.owners;
+    let (number, table) = match search::search(f, n, clients_in(words)) {
+        Ok(Some(table)) => (0, table),
+        Ok(None) => (1, [0; 64]),
+        Err(why) => (number_of(why), [0; 64]),
+    };
     *owners = table;
-    let answer = searched.answer;
-    match answer {
-        SearchAnswer::Found => 0,
-        SearchAnswer::None => 1,
-        SearchAnswer::Refused(number) => number as usize,
-    }
+    number
 }
 
 // One step, the plan checked: the record is its position and eight counts, the answer the client served and eight
@@ -143,9 +112,16 @@ pub extern "C" fn speed_step(
     arrivals: &[u8],
     answer: &mut [u8; 9],
 ) -> usize {
-    let plan = plan_in(f, n, words, owners);
-    let stepped = arbiter::step(plan, arbiter_in(record), arrivals);
-    tell_step(stepped, record, answer)
+    match arbiter::step(plan_in(f, n, words, owners), arbiter_in(record), arrivals) {
+        Ok(stepped) => {
+            put_step(record, answer, stepped);
+            0
+        },
+        Err(why) => {
+            *answer = [0; 9];
+            number_of(why)
+        },
+    }
 }
 
 // The plan checked once, then this many inner steps with the same arrivals: the last step's answer.
@@ -162,12 +138,13 @@ pub extern "C" fn speed_steps(
 ) -> usize {
     let plan = plan_in(f, n, words, owners);
     let arbiter = arbiter_in(record);
-    let outcome = arbiter::inner::check_step(plan, arbiter.position, arrivals.len());
-    if let Outcome::Refused(number, _) = outcome {
-        return number as usize;
+    match arbiter::inner::check_step(plan, arbiter.position, arrivals.len()) {
+        Ok(()) => {
+            put_step(record, answer, steps(plan, arbiter, arrivals, times));
+            0
+        },
+        Err(refused) => number_of(refused.why),
     }
-    let stepped = inner::steps(plan, arbiter, arrivals, times);
-    tell_step(stepped, record, answer)
 }
 
 // The report of a stream: the text's length.

@@ -3,58 +3,58 @@
 use mathlib.Core.Path.{◌≡◌, refl, ap, sym, ◌∙◌}
 use mathlib.Core.List.{List, ◌++◌}
 use Prim.Native.Nat.{ℕ, ◌≤◌, ◌<◌}
-use native.Mathlib.Omega.{arith}
 use lib.ListN.{length, take, drop}
 use lib.Seq.{take_at}
 use borrow.Author.Tests.{le-leb, lt-leb}
-use Rattle.records.specs.Refusal as refusal
-use Rattle.records.specs.declared.Outcome.{Outcome}
-use Rattle.records.specs.declared.Outcome.TheVariants as outcome
+use Rattle.records.specs.declared.refusal.Refusal.TheVariants as refusal
+use Rattle.std.specs.Prelude.{Result, Ok, Err}
+use Rattle.records.specs.declared.refusal.At.{At}
+use Rattle.records.specs.declared.refusal.Refusal.{Refusal}
+use Rattle.records.specs.First.{Outcome, Fine, refuse}
+use Rattle.records.proofs.Said.{not_given}
 use Rattle.records.proofs.Words.{Bytes}
 use Rattle.plan.specs.declared.Plan.{Plan}
-use Rattle.plan.specs.Plan.{no_plan}
 use Rattle.plan.specs.Check.{plan_check}
 use Rattle.stream.specs.Read.{read_check, plan_of, plan_if, read_of}
 use Rattle.stream.specs.Trip.{Rewritten, Reread, Held}
 use Rattle.stream.specs.Write.{stream_of, write_check, written_by, written_of, bytes_by, bytes_of, Wrote}
-use Rattle.stream.specs.declared.Reading.{Reading}
-use Rattle.stream.specs.declared.WriteAnswer.TheVariants as written
 use Rattle.stream.proofs.WrittenBack.{written_back, plan_right}
 use Rattle.stream.proofs.ReadBack.{read_back}
 
--- ---- reading: v is what the checks found, plan the plan given
+-- ---- reading
 
-pub read_given : (s : List ℕ) {v : Outcome} {plan : Plan} → v ≡ read_check s → v ≡ outcome.Fine → plan ≡ plan_of s
-    → record { outcome = v; plan = plan } ≡ read_of s
+pub read_given : (s : List ℕ) → read_check s ≡ Fine → read_of s ≡ Ok (plan_of s)
 unfolding read_of
-read_given s {v} {plan} e h p = let q : read_check s ≡ outcome.Fine = sym e ∙ h in rw (q, h, p)
+read_given s h = rw h
 
-pub read_refused : (s : List ℕ) {v : Outcome} {plan : Plan} {k offset : ℕ} → v ≡ read_check s
-    → v ≡ outcome.Refused k offset → plan ≡ no_plan → record { outcome = v; plan = plan } ≡ read_of s
+pub read_refused : (s : List ℕ) {refused : At Refusal} → read_check s ≡ Err refused → read_of s ≡ Err refused
 unfolding read_of
-read_refused s {v} {plan} {k} {offset} e h p =
-    let q : read_check s ≡ outcome.Refused k offset = sym e ∙ h in
-    rw (q, h, p)
+read_refused s h = rw h
 
--- what the checks found is the outcome that was given
-pub reading_found : (s : List ℕ) (r : Reading) (o : Outcome) → r ≡ read_of s → r.outcome ≡ o → read_check s ≡ o
+-- what the checks found where a plan is read, and which plan it is
+reading_by : (o : Outcome) (plan read : Plan) → plan_if o plan ≡ Ok read → (o ≡ Fine) × (read ≡ plan)
+reading_by (Ok u) plan read h = (refl, cc)
+reading_by (Err refused) plan read h = not_given h
+
+refused_by : (o : Outcome) (plan : Plan) (refused : At Refusal) → plan_if o plan ≡ Err refused → o ≡ Err refused
+refused_by (Ok u) plan refused h = not_given (sym h)
+refused_by (Err found) plan refused h = ap Err cc
+
+pub reading_found : (s : List ℕ) {plan : Plan} → read_of s ≡ Ok plan → (read_check s ≡ Fine) × (plan ≡ plan_of s)
 unfolding read_of
-reading_found s r o e h = ap (λ (x : Reading). x.outcome) (sym e) ∙ h
+reading_found s {plan} h = reading_by (read_check s) (plan_of s) plan h
 
--- a plan that is read is the stream's
-reading_plan : (s : List ℕ) (r : Reading) → r ≡ read_of s → r.outcome ≡ outcome.Fine → r.plan ≡ plan_of s
+pub reading_refused : (s : List ℕ) {refused : At Refusal} → read_of s ≡ Err refused → read_check s ≡ Err refused
 unfolding read_of
-reading_plan s r e h =
-    ap (λ (x : Reading). x.plan) e ∙ ap (λ (o : Outcome). plan_if o (plan_of s)) (reading_found s r outcome.Fine e h)
+reading_refused s {refused} h = refused_by (read_check s) (plan_of s) refused h
 
--- and passes the plan's checks
-pub reading_checked : (s : List ℕ) (r : Reading) → r ≡ read_of s → r.outcome ≡ outcome.Fine
-    → plan_check r.plan ≡ outcome.Fine
-reading_checked s r e h = rw (reading_plan s r e h) (plan_right s (reading_found s r outcome.Fine e h))
+-- a plan that is read passes the plan's checks
+pub reading_checked : (s : List ℕ) {plan : Plan} → read_of s ≡ Ok plan → plan_check plan ≡ Fine
+reading_checked s h = let found = reading_found s h in rw found.1 (plan_right s found.0)
 
 -- a stream of bytes that is read is written back
-pub read_rewritten : (s : List ℕ) {r : Reading} → Bytes s → r ≡ read_of s → Rewritten s r
-read_rewritten s {r} b e h = rw (reading_plan s r e h) (written_back s b (reading_found s r outcome.Fine e h))
+pub read_rewritten : (s : List ℕ) {r : Result Plan (At Refusal)} → Bytes s → r ≡ read_of s → Rewritten s r
+read_rewritten s b e plan h = let found = reading_found s (sym e ∙ h) in rw found.1 (written_back s b found.0)
 
 -- ---- writing: r is the answer, now the lent output after
 
@@ -63,29 +63,25 @@ wrote_by : (plan : Plan) (out : List ℕ) (o : Outcome) → write_check plan (le
 unfolding written_of bytes_of
 wrote_by plan out o e = record { answer = rw e; bytes = rw e }
 
-pub plan_refused : (plan : Plan) (out : List ℕ) {k offset : ℕ} → plan_check plan ≡ outcome.Refused k offset
-    → Wrote plan out (written.Refused k) out
+pub plan_refused : (plan : Plan) (out : List ℕ) {refused : At Refusal} → plan_check plan ≡ Err refused
+    → Wrote plan out (Err refused.why) out
 unfolding write_check
-plan_refused plan out {k} {offset} e = wrote_by plan out (outcome.Refused k offset) (rw e)
+plan_refused plan out {refused} e = wrote_by plan out (Err refused) (rw e)
 
-pub room_refused : (plan : Plan) (out : List ℕ) → plan_check plan ≡ outcome.Fine → length out < length (stream_of plan)
-    → Wrote plan out (written.Refused refusal.room) out
+pub room_refused : (plan : Plan) (out : List ℕ) → plan_check plan ≡ Fine → length out < length (stream_of plan)
+    → Wrote plan out (Err refusal.Room) out
 unfolding write_check
 room_refused plan out e l =
-    wrote_by plan out (outcome.Refused refusal.room 0) (simp (e, lt-leb (length (stream_of plan)) (length out) l))
+    wrote_by plan out (refuse refusal.Room 0) (simp (e, lt-leb (length (stream_of plan)) (length out) l))
 
-pub write_given : (plan : Plan) (out : List ℕ) → plan_check plan ≡ outcome.Fine → length (stream_of plan) ≤ length out
-    → Wrote plan out (written.Given (length (stream_of plan))) (stream_of plan ++ drop (length (stream_of plan)) out)
+pub write_given : (plan : Plan) (out : List ℕ) → plan_check plan ≡ Fine → length (stream_of plan) ≤ length out
+    → Wrote plan out (Ok (length (stream_of plan))) (stream_of plan ++ drop (length (stream_of plan)) out)
 unfolding write_check
-write_given plan out e l = wrote_by plan out outcome.Fine (simp (e, le-leb (length (stream_of plan)) (length out) l))
-
--- a refused write has written nothing that could be read
-pub not_reread : (plan : Plan) (k : ℕ) (now : List ℕ) → Reread plan (written.Refused k) now
-not_reread plan k now size h = let z : ◌≡◌ {A = ℕ} 0 1 = cc in absurd (omega arith)
+write_given plan out e l = wrote_by plan out Fine (simp (e, le-leb (length (stream_of plan)) (length out) l))
 
 -- a plan that is written is read back
-pub write_reread : (plan : Plan) (rest : List ℕ) → Held plan → plan_check plan ≡ outcome.Fine
-    → Reread plan (written.Given (length (stream_of plan))) (stream_of plan ++ rest)
+pub write_reread : (plan : Plan) (rest : List ℕ) → Held plan → plan_check plan ≡ Fine
+    → Reread plan (Ok (length (stream_of plan))) (stream_of plan ++ rest)
 write_reread plan rest held h size e =
     let n : size ≡ length (stream_of plan) = cc in
     ap (λ (k : ℕ). read_of (take k (stream_of plan ++ rest))) n

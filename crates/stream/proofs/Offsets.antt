@@ -8,16 +8,14 @@ use Prim.Native.Nat.{ℕ, zero, suc, ◌+◌, ◌*◌, ◌≤◌, ◌<◌}
 use native.Mathlib.Omega.{arith}
 use lib.Dec.{ltb, eqb}
 use lib.ListN.{length, get_or}
-use Rattle.records.specs.Refusal as refusal
-use Rattle.records.specs.First.{pick, unless, or_else, first_of, offset_of}
+use Rattle.records.specs.declared.refusal.Refusal.TheVariants as refusal
+use Rattle.records.specs.First.{pick, unless, or_else, first_of, offset_of, Outcome, Fine}
 use Rattle.records.specs.Record.{over_check}
-use Rattle.records.specs.declared.Outcome.{Outcome}
-use Rattle.records.specs.declared.Outcome.TheVariants.{Fine}
 use Rattle.records.proofs.Refusals.{or_reached, or_each, first_reached, first_each, unless_within, record_within}
 use Rattle.records.proofs.Refusals.{over_within, range_offset}
 use Rattle.plan.specs.Check.{frame_check, count_check, client_check, owner_check}
 use Rattle.plan.proofs.Refusals.{client_within, owner_within}
-use Rattle.stream.specs.Kind.{head_kind, client_kind, row_kind, end_kind, body_of, class_of, rows_of}
+use Rattle.stream.specs.Kind.{head_kind, client_kind, row_kind, end_kind, body_of, kind_check, rows_of}
 use Rattle.stream.specs.Read.{next_place, place, due_check, f_in, n_in, head_record_check, client_at, number_check}
 use Rattle.stream.specs.Read.{client_record_check, client_due_check, slot_check, slot_due_check, row_record_check}
 use Rattle.stream.specs.Read.{row_due_check, end_record_check, to_clients, to_rows, to_end, rest_check, read_check}
@@ -52,15 +50,15 @@ rows_within s f n at i l h = place_within s at row_kind i l (λ j m. (rows_fine 
 
 due_within : (s : List ℕ) (at due : ℕ) → at ≤ length s → Within s (due_check s at due)
 unfolding Within due_check
-due_within s at due l = record_within s at (class_of due (get_or s at 0)) (body_of (get_or s at 0)) l
+due_within s at due l = record_within s at (kind_check due (get_or s at 0)) (body_of (get_or s at 0)) l
 
 head_within : (s : List ℕ) → Within s (head_record_check s)
 unfolding Within head_record_check
 head_within s =
     let frame : Outcome = frame_check (f_in s) in
     let count : Outcome = count_check (n_in s) in
-    let f = range_offset (f_in s) 64 refusal.frame in
-    let n = range_offset (n_in s) 8 refusal.count in
+    let f = range_offset (f_in s) 64 refusal.Frame in
+    let n = range_offset (n_in s) 8 refusal.Count in
     or_each (Within s) (due_check s 0 head_kind) (or_else frame count) (due_within s 0 head_kind (omega arith))
     (or_each (Within s) frame count (omega arith) (omega arith))
 
@@ -71,14 +69,14 @@ client_read_within s at number l =
     let required : Outcome = client_check (client_at s at) at in
     or_each (Within s) (due_check s at client_kind) (or_else next required) (due_within s at client_kind l)
     (or_each (Within s) next required
-    (unless_within (length s) (eqb (get_or s (at + 1) 0) number) refusal.not_next at l)
+    (unless_within (length s) (eqb (get_or s (at + 1) 0) number) refusal.NotNext at l)
     (client_within (length s) (client_at s at) at l))
 
 slot_within : (s : List ℕ) (b : Bool) (n byte at : ℕ) → at ≤ length s
-    → Within s (pick b (owner_check byte n at) (unless (eqb byte 255) refusal.past_frame at))
+    → Within s (pick b (owner_check byte n at) (unless (eqb byte 255) refusal.PastFrame at))
 unfolding Within
 slot_within s true n byte at l = owner_within (length s) byte n at l
-slot_within s false n byte at l = unless_within (length s) (eqb byte 255) refusal.past_frame at l
+slot_within s false n byte at l = unless_within (length s) (eqb byte 255) refusal.PastFrame at l
 
 row_read_within : (s : List ℕ) (f n at j : ℕ) → at ≤ length s → Within s (row_record_check s f n at j)
 unfolding Within row_record_check slot_due_check slot_check

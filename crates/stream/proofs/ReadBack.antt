@@ -10,11 +10,11 @@ use native.Mathlib.Omega.{arith}
 use lib.ListN.{length, get_or, length-append}
 use lib.Seq.{get_or_at}
 use borrow.Author.Tests.{lt-ltb, le-ltb, eq-eqb}
-use Rattle.records.specs.Refusal as refusal
-use Rattle.records.specs.First.{first_of}
+use Rattle.records.specs.declared.refusal.Refusal.TheVariants as refusal
+use Rattle.std.specs.Prelude.{Ok}
+use Rattle.records.specs.First.{first_of, Fine}
 use Rattle.records.specs.Pieces.{many, firsts, part}
 use Rattle.records.specs.Record.{over_check}
-use Rattle.records.specs.declared.Outcome.TheVariants.{Fine}
 use Rattle.records.proofs.Checks.{below_or_not, range_pass, first_all, over_pass}
 use Rattle.records.proofs.Lists.{get_firsts, padded_same}
 use Rattle.records.proofs.Parts.{part_get, part_first, part_many, many_room}
@@ -24,7 +24,7 @@ use Rattle.plan.specs.declared.Plan.{Plan}
 use Rattle.plan.specs.Plan.{no_client, client_of, owner_of, used}
 use Rattle.plan.specs.Check.{frame_check, count_check, client_check, plan_check}
 use Rattle.plan.proofs.Laws.{Checked, Required, client_pass, owner_pass, plan_fine}
-use Rattle.stream.specs.Kind.{head_kind, client_kind, row_kind, end_kind, whole_of, class_of, rows_of}
+use Rattle.stream.specs.Kind.{head_kind, client_kind, row_kind, end_kind, whole_of, kind_check, rows_of}
 use Rattle.stream.specs.Read.{next_place, place, due_check, head_record_check, client_at, number_check}
 use Rattle.stream.specs.Read.{client_record_check, client_due_check, slot_check, slot_due_check, row_record_check}
 use Rattle.stream.specs.Read.{row_due_check, end_record_check, to_clients, to_rows, to_end, rest_check, read_check}
@@ -88,7 +88,7 @@ client_same s at number c h w =
 
 client_forth : (s : List ℕ) (at number : ℕ) (c : Client) → Stands s at (client_bytes number c) → Words c → Required c
     → client_record_check s at number ≡ Fine
-unfolding client_record_check client_bytes class_of number_check
+unfolding client_record_check client_bytes kind_check number_check
 client_forth s at number c h w r =
     let due : due_check s at client_kind ≡ Fine =
     due_pass s at client_kind refl (whole s at client_kind (client_bytes number c) h refl (length_client number c)) in
@@ -123,7 +123,7 @@ slot_forth plan s at j t ok h l =
 
 row_forth : (plan : Plan) (s : List ℕ) (at j : ℕ) → Checked plan → Stands s at (row_record plan j)
     → row_record_check s plan.f plan.n at j ≡ Fine
-unfolding row_record_check row_record class_of
+unfolding row_record_check row_record kind_check
 row_forth plan s at j ok h =
     let due : due_check s at row_kind ≡ Fine =
     due_pass s at row_kind refl (whole s at row_kind (row_record plan j) h refl (length_row plan j)) in
@@ -216,14 +216,14 @@ module _ (plan : Plan) (ok : Checked plan) (held : Held plan) where
 
   -- every check passes
   head_forth : head_record_check (stream_of plan) ≡ Fine
-  unfolding head_record_check stream_of class_of
+  unfolding head_record_check stream_of kind_check
   head_forth =
       let n = length_parts plan in
       let due : due_check (stream_of plan) 0 head_kind ≡ Fine =
       due_pass (stream_of plan) 0 head_kind refl (record { found = refl; room = omega arith }) in
       let b = ok.bounds in
-      let frame : frame_check plan.f ≡ Fine = range_pass plan.f 64 refusal.frame b.f_low b.f_high in
-      let count : count_check plan.n ≡ Fine = range_pass plan.n 8 refusal.count b.n_low b.n_high in
+      let frame : frame_check plan.f ≡ Fine = range_pass plan.f 64 refusal.Frame b.f_low b.f_high in
+      let count : count_check plan.n ≡ Fine = range_pass plan.n 8 refusal.Count b.n_low b.n_high in
       simp (due, frame, count)
 
   clients_forth : first_of (client_due_check (stream_of plan) (to_clients (stream_of plan))) plan.n ≡ Fine
@@ -244,7 +244,7 @@ module _ (plan : Plan) (ok : Checked plan) (held : Held plan) where
       (row_stands j l))
 
   end_forth : end_record_check (stream_of plan) (to_end (stream_of plan) plan.f plan.n) ≡ Fine
-  unfolding end_record_check class_of
+  unfolding end_record_check kind_check
   end_forth =
       let s : List ℕ = stream_of plan in
       let at : ℕ = to_end s plan.f plan.n in
@@ -289,7 +289,7 @@ module _ (plan : Plan) (ok : Checked plan) (held : Held plan) where
 
 -- "Plans written are read back the same"
 pub read_back : (plan : Plan) → Held plan → plan_check plan ≡ Fine
-    → read_of (stream_of plan) ≡ record { outcome = Fine; plan = used plan }
+    → read_of (stream_of plan) ≡ Ok (used plan)
 unfolding read_of
 read_back plan held h =
     let ok = plan_fine plan h in

@@ -1,48 +1,29 @@
--- Laws of a plan stream's records and their places: what a kind is, what decides a record's check, what a record that
+-- Laws of a plan stream's records and their places: what decides a record's check, what a record that
 -- passes says, and where the next one stands.
 -- Assumes nothing.
 use mathlib.Core.Path.{◌≡◌, refl, ap, sym, ◌∙◌}
 use mathlib.Core.Bool.{Bool, true, false}
 use mathlib.Core.List.{List}
-use mathlib.Core.Logic.{◌≢◌, ⊎_elim}
-use Prim.Native.Nat.{ℕ, zero, suc, ◌+◌, ◌*◌, ◌≤◌, ◌<◌, max}
+use Prim.Native.Nat.{ℕ, zero, suc, ◌+◌, ◌-◌, ◌*◌, ◌≤◌, ◌<◌, max}
 use native.Mathlib.Numerals.{add-one}
 use native.Mathlib.Omega.{arith}
 use lib.Dec.{eqb}
-use lib.ListN.{length, get_or}
-use borrow.Author.Tests.{eqb-true, lt-ltb, le-leb, lt-leb, ne_eqb}
-use Rattle.records.specs.Refusal as refusal
-use Rattle.records.specs.First.{pick, first_of}
+use lib.ListN.{length, get_or, take, drop, length-take}
+use lib.Seq.{get_or-take, get_or-drop}
+use borrow.Author.Tests.{eqb-true, lt-ltb}
+use Rattle.records.specs.declared.refusal.Refusal.TheVariants as refusal
+use Rattle.records.specs.First.{pick, first_of, Outcome, Fine}
+use Rattle.std.specs.Prelude.{Ok, Err}
 use Rattle.records.specs.Record.{record_check}
-use Rattle.records.specs.declared.Outcome.{Outcome}
-use Rattle.records.specs.declared.Outcome.TheVariants.{Fine}
-use Rattle.records.proofs.Checks.{both_fine, unless_fine, range_fine, first_fine, first_same}
-use Rattle.records.proofs.Checks.{below_or_not, record_fine, record_pass, record_body, over_fine}
+use Rattle.records.proofs.Checks.{not_fine, both_fine, unless_fine, range_fine, first_fine, first_same, record_fine}
+use Rattle.records.proofs.Checks.{record_pass, record_body, over_fine}
 use Rattle.plan.specs.Check.{owner_check}
 use Rattle.plan.proofs.Laws.{Required, client_fine, owner_higher}
-use Rattle.stream.specs.Kind.{head_kind, client_kind, row_kind, end_kind, body_of, whole_of}
-use Rattle.stream.specs.Kind.{is_reserved, class_of, rows_of}
+use Rattle.stream.specs.Kind.{head_kind, client_kind, row_kind, end_kind, body_of, whole_of, is_reserved, kind_check}
+use Rattle.stream.specs.Kind.{rows_of}
 use Rattle.stream.specs.Read.{f_in, n_in, next_place, place, due_check, head_record_check, client_at, number_check}
 use Rattle.stream.specs.Read.{client_record_check, client_due_check, slot_check, slot_due_check, row_record_check}
 use Rattle.stream.specs.Read.{row_due_check, end_record_check, to_clients, to_rows, to_end, rest_check, read_check}
-
--- ---- what a kind is
-
--- 1, 2 and 3 are known, and not due where another kind is
-pub class_low : (due kind : ℕ) → kind ≢ 0 → kind < 4 → kind ≢ due → refusal.not_due ≡ class_of due kind
-unfolding class_of
-class_low due kind some low other =
-    simp (ne_eqb kind 0 some, lt-leb 4 kind low, lt-leb 10 kind (omega arith), ne_eqb kind due other)
-
--- from 4 on all are reserved but 9
-pub class_high : (due kind : ℕ) → 4 ≤ kind → kind ≢ 9 → refusal.reserved ≡ class_of due kind
-unfolding class_of
-class_high due kind high other =
-    let some = ne_eqb kind 0 (λ e. omega (arith, e)) in
-    ⊎_elim
-    (λ (l : kind < 9). simp (some, le-leb 4 kind high, le-leb kind 8 (omega arith)))
-    (λ (l : 9 ≤ kind). simp (some, le-leb 4 kind high, lt-leb kind 8 (omega arith), le-leb 10 kind (omega arith)))
-    (below_or_not kind 9)
 
 -- ---- a record where a kind is due
 
@@ -51,37 +32,38 @@ pub record Whole (s : List ℕ) (at kind : ℕ) : Type 0 where
   pub found : get_or s at 0 ≡ kind
   pub room : at + whole_of kind ≤ length s
 
-class_by : (r e : Bool) → pick r refusal.reserved (pick e 0 refusal.not_due) ≡ 0 → e ≡ true
-class_by true e h = absurd (omega arith)
-class_by false true h = refl
-class_by false false h = absurd (omega arith)
+kind_by : (r e : Bool) → pick r (Err refusal.Reserved) (pick e (Ok tt) (Err refusal.NotDue)) ≡ Fine → e ≡ true
+kind_by true e h = not_fine h
+kind_by false true h = refl
+kind_by false false h = not_fine h
 
-class_due : (due kind : ℕ) → class_of due kind ≡ 0 → kind ≡ due
-unfolding class_of
-class_due due kind h = eqb-true kind due (class_by (is_reserved kind) (eqb kind due) h)
+kind_due : (due kind : ℕ) → kind_check due kind ≡ Fine → kind ≡ due
+unfolding kind_check
+kind_due due kind h = eqb-true kind due (kind_by (is_reserved kind) (eqb kind due) h)
 
 -- a record's length matters only where its kind is the one due
 pub due_body : (s : List ℕ) (at due : ℕ)
-    → record_check s at (class_of due (get_or s at 0)) (body_of due) ≡ due_check s at due
+    → record_check s at (kind_check due (get_or s at 0)) (body_of due) refusal.Ended ≡ due_check s at due
 unfolding due_check
 due_body s at due =
     let kind = get_or s at 0 in
-    record_body s at (class_of due kind) (body_of due) (body_of kind) (λ e. ap body_of (sym (class_due due kind e)))
+    record_body s at (kind_check due kind) (body_of due) (body_of kind) refusal.Ended
+    (λ e. ap body_of (sym (kind_due due kind e)))
 
 pub due_fine : (s : List ℕ) (at due : ℕ) → due_check s at due ≡ Fine → Whole s at due
 unfolding due_check
 due_fine s at due h =
-    let a = record_fine s at (class_of due (get_or s at 0)) (body_of (get_or s at 0)) h in
-    let k : get_or s at 0 ≡ due = class_due due (get_or s at 0) a.0 in
+    let a = record_fine s at (kind_check due (get_or s at 0)) (body_of (get_or s at 0)) refusal.Ended h in
+    let k : get_or s at 0 ≡ due = kind_due due (get_or s at 0) a.0 in
     record { found = k; room = rw k at a.1 }
 
 -- the same of what a check found, v
 pub due_found : (s : List ℕ) (at due : ℕ) {v : Outcome} → v ≡ due_check s at due → v ≡ Fine → Whole s at due
 due_found s at due e h = due_fine s at due (sym e ∙ h)
 
-pub due_pass : (s : List ℕ) (at due : ℕ) → class_of due due ≡ 0 → Whole s at due → due_check s at due ≡ Fine
+pub due_pass : (s : List ℕ) (at due : ℕ) → kind_check due due ≡ Fine → Whole s at due → due_check s at due ≡ Fine
 unfolding due_check
-due_pass s at due e w = rw w.found (record_pass s at (class_of due due) (body_of due) e w.room)
+due_pass s at due e w = rw w.found (record_pass s at (kind_check due due) (body_of due) refusal.Ended e w.room)
 
 -- ---- places
 
@@ -114,8 +96,8 @@ unfolding head_record_check
 head_fine s h =
     let a = both_fine _ _ h in
     let b = both_fine _ _ a.1 in
-    let f = range_fine (f_in s) 64 refusal.frame b.0 in
-    let n = range_fine (n_in s) 8 refusal.count b.1 in
+    let f = range_fine (f_in s) 64 refusal.Frame b.0 in
+    let n = range_fine (n_in s) 8 refusal.Count b.1 in
     record { whole = due_fine s 0 head_kind a.0; f_low = f.0; f_high = f.1; n_low = n.0; n_high = n.1 }
 
 -- the same of what a check found, v
@@ -159,6 +141,12 @@ pub place_clients : (s : List ℕ) (at n : ℕ) → first_of (client_due_check s
 place_clients s at n h i l =
     place_whole s at client_kind i (λ j k. (clients_fine s at n h j (omega arith)).whole.found)
 
+-- the next one stands past those that pass
+pub client_next : (s : List ℕ) (at i : ℕ) {v : Outcome} → first_of (client_due_check s at) i ≡ Fine
+    → v ≡ client_record_check s (at + whole_of client_kind * i) (i + 1) → v ≡ client_due_check s at i
+unfolding client_due_check
+client_next s at i h e = rw (place_clients s at i h i (omega arith)) e
+
 -- a row's: its eight slots pass
 pub record RowFine (s : List ℕ) (f n at j : ℕ) : Type 0 where
   pub whole : Whole s at row_kind
@@ -170,6 +158,14 @@ pub owners_more : (g : ℕ → ℕ) (n at t highest : ℕ) {r : ℕ}
     → first_of (λ i. owner_check (g i) n at) (t + 1) ≡ owner_check r n at
 unfolding first_of
 owners_more g n at t highest h e = rw (add-one, h, e) (owner_higher highest (g t) n at)
+
+-- the eight bytes of a row, taken by themselves
+pub row_bytes : (s : List ℕ) (at t : ℕ) → t < length (take (at + 9 - (at + 1)) (drop (at + 1) s))
+    → get_or (take (at + 9 - (at + 1)) (drop (at + 1) s)) t 0 ≡ get_or s (at + (1 + t)) 0
+row_bytes s at t h =
+    let e : at + 1 + t ≡ at + (1 + t) = omega arith in
+    let here = get_or-take (at + 9 - (at + 1)) (drop (at + 1) s) t 0 (omega (arith, length-take {A = ℕ})) in
+    rw (here, get_or-drop (at + 1) s t 0, e)
 
 -- a row with no place past f holds owners alone
 pub full_row : (s : List ℕ) (f n at j : ℕ) → 8 * j + 8 ≤ f
@@ -192,6 +188,12 @@ pub place_rows : (s : List ℕ) (f n at m : ℕ) → first_of (row_due_check s f
     → place s at j ≡ at + whole_of row_kind * j
 place_rows s f n at m h j l =
     place_whole s at row_kind j (λ i k. (rows_fine s f n at m h i (omega arith)).whole.found)
+
+-- the next one stands past those that pass
+pub row_next : (s : List ℕ) (f n at j : ℕ) {v : Outcome} → first_of (row_due_check s f n at) j ≡ Fine
+    → v ≡ row_record_check s f n (at + whole_of row_kind * j) j → v ≡ row_due_check s f n at j
+unfolding row_due_check
+row_next s f n at j h e = rw (place_rows s f n at j h j (omega arith)) e
 
 -- ---- a stream that passes
 

@@ -1,22 +1,23 @@
 -- A refused read has a number 1 to 11, a refused write 5, 6, 8, 9, 10 or 12, a refused copy 1 to 12: "Each refusal has
 -- its number".
 -- Assumes nothing.
-use mathlib.Core.Path.{◌≡◌, refl}
+use mathlib.Core.Path.{refl}
 use mathlib.Core.Bool.{Bool, true, false}
 use mathlib.Core.List.{List, [], ◌∷◌, ◌++◌}
 use Prim.Native.Nat.{ℕ, ◌+◌, ◌*◌}
 use lib.Dec.{ltb, leb, eqb}
 use lib.ListN.{length, get_or}
-use Rattle.records.specs.Refusal as refusal
-use Rattle.records.specs.First.{pick, unless, or_else, first_of, among, Gives}
+use Rattle.records.specs.declared.refusal.Refusal.TheVariants as refusal
+use Rattle.records.specs.First.{pick, unless, or_else, first_of, Gives, Outcome}
 use Rattle.records.specs.Record.{over_check}
-use Rattle.records.specs.declared.Outcome.{Outcome}
-use Rattle.records.proofs.Refusals.{or_each, unless_gives, range_gives, or_gives, first_gives, record_gives, over_gives}
+use Rattle.records.proofs.Refusals.{or_each, unless_gives, range_gives, or_gives, first_gives, record_gives}
+use Rattle.records.proofs.Refusals.{over_gives, GivesDue}
+use Rattle.std.specs.Prelude.{Ok, Err}
 use Rattle.plan.specs.declared.Plan.{Plan}
 use Rattle.plan.specs.Check.{frame_check, count_check, client_check, owner_check, plan_check}
 use Rattle.plan.specs.Entries.{plan_numbers}
 use Rattle.plan.proofs.Refusals.{client_gives, owner_gives, plan_gives}
-use Rattle.stream.specs.Kind.{head_kind, client_kind, row_kind, end_kind, body_of, is_reserved, class_of, rows_of}
+use Rattle.stream.specs.Kind.{head_kind, client_kind, row_kind, end_kind, body_of, is_reserved, kind_check, rows_of}
 use Rattle.stream.specs.Read.{f_in, n_in, next_place, place, due_check, head_record_check, client_at, number_check}
 use Rattle.stream.specs.Read.{client_record_check, client_due_check, slot_check, slot_due_check, row_record_check}
 use Rattle.stream.specs.Read.{row_due_check, end_record_check, to_clients, to_rows, to_end, rest_check, read_check}
@@ -30,17 +31,18 @@ use Rattle.stream.specs.Entries.{read_numbers, write_numbers, copy_numbers}
 abbrev OfReading : Outcome → Type 0
 OfReading = Gives read_numbers
 
-class_among : (r e : Bool) → among (pick r refusal.reserved (pick e 0 refusal.not_due)) (0 ∷ read_numbers) ≡ true
-class_among true e = refl
-class_among false true = refl
-class_among false false = refl
+kind_gives : (r e : Bool)
+    → GivesDue read_numbers (pick r (Err refusal.Reserved) (pick e (Ok tt) (Err refusal.NotDue)))
+kind_gives true e = refl
+kind_gives false true = tt
+kind_gives false false = refl
 
 due_gives : (s : List ℕ) (at due : ℕ) → OfReading (due_check s at due)
-unfolding due_check class_of
+unfolding due_check kind_check
 due_gives s at due =
     let kind : ℕ = get_or s at 0 in
-    record_gives read_numbers s at (class_of due kind) (body_of kind) refl
-    (class_among (is_reserved kind) (eqb kind due))
+    record_gives read_numbers s at (kind_check due kind) (body_of kind) refl
+    (kind_gives (is_reserved kind) (eqb kind due))
 
 head_gives : (s : List ℕ) → OfReading (head_record_check s)
 unfolding head_record_check
@@ -48,8 +50,8 @@ head_gives s =
     let frame : Outcome = frame_check (f_in s) in
     let count : Outcome = count_check (n_in s) in
     or_each OfReading (due_check s 0 head_kind) (or_else frame count) (due_gives s 0 head_kind)
-    (or_each OfReading frame count (range_gives read_numbers (f_in s) 64 refusal.frame refl)
-    (range_gives read_numbers (n_in s) 8 refusal.count refl))
+    (or_each OfReading frame count (range_gives read_numbers (f_in s) 64 refusal.Frame refl)
+    (range_gives read_numbers (n_in s) 8 refusal.Count refl))
 
 client_read_gives : (s : List ℕ) (at number : ℕ) → OfReading (client_record_check s at number)
 unfolding client_record_check number_check
@@ -58,13 +60,13 @@ client_read_gives s at number =
     let required : Outcome = client_check (client_at s at) at in
     or_each OfReading (due_check s at client_kind) (or_else next required) (due_gives s at client_kind)
     (or_each OfReading next required
-    (unless_gives read_numbers (eqb (get_or s (at + 1) 0) number) refusal.not_next at refl)
+    (unless_gives read_numbers (eqb (get_or s (at + 1) 0) number) refusal.NotNext at refl)
     (client_gives read_numbers (client_at s at) at refl refl))
 
 slot_gives : (b : Bool) (n byte at : ℕ)
-    → OfReading (pick b (owner_check byte n at) (unless (eqb byte 255) refusal.past_frame at))
+    → OfReading (pick b (owner_check byte n at) (unless (eqb byte 255) refusal.PastFrame at))
 slot_gives true n byte at = owner_gives read_numbers byte n at refl
-slot_gives false n byte at = unless_gives read_numbers (eqb byte 255) refusal.past_frame at refl
+slot_gives false n byte at = unless_gives read_numbers (eqb byte 255) refusal.PastFrame at refl
 
 row_read_gives : (s : List ℕ) (f n at j : ℕ) → OfReading (row_record_check s f n at j)
 unfolding row_record_check slot_due_check slot_check
@@ -103,10 +105,10 @@ read_gives s =
 
 -- 12 after the refusals of another check
 room_gives : (ks : List ℕ) (o : Outcome) (size room : ℕ) → Gives ks o
-    → Gives (ks ++ (12 ∷ [])) (or_else o (unless (leb size room) refusal.room 0))
+    → Gives (ks ++ (12 ∷ [])) (or_else o (unless (leb size room) refusal.Room 0))
 room_gives ks o size room h =
-    let fits : Outcome = unless (leb size room) refusal.room 0 in
-    or_gives ks (12 ∷ []) o fits h (unless_gives (12 ∷ []) (leb size room) refusal.room 0 refl)
+    let fits : Outcome = unless (leb size room) refusal.Room 0 in
+    or_gives ks (12 ∷ []) o fits h (unless_gives (12 ∷ []) (leb size room) refusal.Room 0 refl)
 
 pub write_gives : (plan : Plan) (room : ℕ) → Gives write_numbers (write_check plan room)
 unfolding write_check

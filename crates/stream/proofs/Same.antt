@@ -6,6 +6,7 @@ use mathlib.Core.List.{List}
 use mathlib.Core.Logic.{⊎_elim}
 use Prim.Native.Nat.{ℕ, ◌+◌, ◌*◌, ◌≤◌, ◌<◌}
 use borrow.Author.Tests.{le-ltb}
+use Rattle.records.specs.Said.{Said}
 use Rattle.records.proofs.Checks.{below_or_not}
 use Rattle.records.proofs.Lists.{many_same, firsts_same}
 use Rattle.plan.specs.declared.Plan.{Plan}
@@ -15,7 +16,6 @@ use Rattle.stream.specs.Kind.{rows_of}
 use Rattle.stream.specs.Write.{client_bytes, client_record, slot_byte, row_byte, row_record, stream_of, write_check}
 use Rattle.stream.specs.Write.{written_of, bytes_of, Wrote}
 use Rattle.stream.specs.Trip.{Reread, reread_of}
-use Rattle.stream.specs.declared.WriteAnswer.{WriteAnswer}
 
 slot_byte_same : (plan other : Plan) → Same plan other → (x : ℕ) → slot_byte plan x ≡ slot_byte other x
 unfolding slot_byte
@@ -35,7 +35,7 @@ same_stream plan other s =
     (λ j l. rw (firsts_same (row_byte plan j) (row_byte other j) 8 (λ t m. slot_byte_same plan other s (8 * j + t)))) in
     rw (clients, rows, s.frame, s.count)
 
-pub same_wrote : (plan other : Plan) → Same plan other → {out now : List ℕ} {r : WriteAnswer} → Wrote plan out r now
+pub same_wrote : (plan other : Plan) → Same plan other → {out now : List ℕ} {r : Said ℕ} → Wrote plan out r now
     → Wrote other out r now
 unfolding written_of bytes_of write_check
 same_wrote plan other s w =
@@ -43,7 +43,7 @@ same_wrote plan other s w =
     let stream = same_stream plan other s in
     record { answer = w.answer ∙ rw (check, stream); bytes = w.bytes ∙ rw (check, stream) }
 
-pub same_reread : (plan other : Plan) → Same plan other → (r : WriteAnswer) (now : List ℕ) → Reread plan r now
+pub same_reread : (plan other : Plan) → Same plan other → (r : Said ℕ) (now : List ℕ) → Reread plan r now
     → Reread other r now
 same_reread plan other s r now back size e = back size e ∙ rw (same_used plan other s)
 

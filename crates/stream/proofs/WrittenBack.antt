@@ -10,10 +10,9 @@ use native.Mathlib.Omega.{arith}
 use lib.Dec.{ltb, eqb}
 use lib.ListN.{drop, get_or, drop_of_length-le}
 use borrow.Author.Tests.{lt-ltb, le-ltb, eqb-true}
-use Rattle.records.specs.Refusal as refusal
-use Rattle.records.specs.First.{pick, unless}
+use Rattle.records.specs.declared.refusal.Refusal.TheVariants as refusal
+use Rattle.records.specs.First.{pick, unless, Fine}
 use Rattle.records.specs.Pieces.{many, firsts, part}
-use Rattle.records.specs.declared.Outcome.TheVariants.{Fine}
 use Rattle.records.proofs.Checks.{below_or_not, unless_fine, first_fine}
 use Rattle.records.proofs.Lists.{firsts_same, get_padded}
 use Rattle.records.proofs.Parts.{part_run, part_rest, many_part}
@@ -47,7 +46,7 @@ slot_back f n x byte at h =
     ⊎_elim
     (λ (l : x < f). simp (lt-ltb x f l))
     (λ (l : f ≤ x).
-    let past : unless (eqb byte 255) refusal.past_frame at ≡ Fine = rw (le-ltb x f l) at h in
+    let past : unless (eqb byte 255) refusal.PastFrame at ≡ Fine = rw (le-ltb x f l) at h in
     simp (le-ltb x f l) (sym (eqb-true byte 255 (unless_fine _ _ _ past))))
     (below_or_not x f)
 

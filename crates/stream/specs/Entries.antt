@@ -1,20 +1,18 @@
 -- The entries of `stream` as rows of demand 1's table, and the numbers that its checks give.
-use Rattle.std.specs.Prelude.{◌≡◌, List, [], ◌∷◌, ◌++◌, ℕ, length}
-use Rattle.records.specs.First.{number_of}
-use Rattle.records.specs.Said.{said_number}
+use Rattle.std.specs.Prelude.{◌≡◌, List, [], ◌∷◌, ◌++◌, ℕ, length, Result, Ok, Err}
+use Rattle.records.specs.declared.refusal.At.{At}
+use Rattle.records.specs.declared.refusal.Refusal.{Refusal}
+use Rattle.records.specs.First.{at, Outcome}
+use Rattle.records.specs.Refusal.{number}
+use Rattle.records.specs.Said.{Said, said_number}
 use Rattle.records.specs.Entry.{Entry}
-use Rattle.records.specs.declared.Outcome.{Outcome}
-use Rattle.records.specs.declared.Outcome.TheVariants as outcome
 use Rattle.plan.specs.declared.Plan.{Plan}
-use Rattle.plan.specs.Plan.{no_plan, Same}
+use Rattle.plan.specs.Plan.{Same}
 use Rattle.plan.specs.Check.{plan_check}
 use Rattle.plan.specs.Entries.{plan_numbers}
 use Rattle.stream.specs.Read.{read_check, read_of}
-use Rattle.stream.specs.Write.{write_check, Wrote, write_said}
+use Rattle.stream.specs.Write.{write_check, Wrote}
 use Rattle.stream.specs.Trip.{Rewritten, Reread, copy_check, Copied, reread_of}
-use Rattle.stream.specs.declared.Reading.{Reading}
-use Rattle.stream.specs.declared.WriteAnswer.{WriteAnswer}
-use Rattle.stream.specs.declared.WriteAnswer.TheVariants as written
 
 -- "Reading goes record by record": 1 to 11
 abbrev pub read_numbers : List ℕ
@@ -29,35 +27,46 @@ abbrev pub copy_numbers : List ℕ
 copy_numbers = read_numbers ++ (12 ∷ [])
 
 -- an entry that writes into a lent output: more is the output before, beside the answer stands the output after
-abbrev pub writes : {U : Type 0} → (U → U → Type 0) → (U → List ℕ → WriteAnswer → List ℕ → Type 0)
+abbrev pub writes : {U : Type 0} → (U → U → Type 0) → (U → List ℕ → Said ℕ → List ℕ → Type 0)
     → (U → ℕ → Outcome) → List ℕ → Entry
 writes {U} Alike Is check numbers =
     record {
       Subject = U;
       Same = Alike;
       More = List ℕ;
-      Reply = WriteAnswer × List ℕ;
+      Reply = Said ℕ × List ℕ;
       Is = λ u out r. Is u out r.0 r.1;
       check = λ u out. check u (length out);
       numbers = numbers;
-      number = λ r. said_number (write_said r.0);
-      Refuses = λ out k offset r. r ≡ (written.Refused k, out);
+      number = λ r. said_number r.0;
+      Refuses = λ out why offset r. r ≡ (Err why, out);
+    }
+
+-- a reading's number, 0 where nothing is refused
+abbrev pub reading_number : Result Plan (At Refusal) → ℕ
+reading_number (Ok plan) = 0
+reading_number (Err refused) = number refused.why
+
+-- an entry that returns a plan, or why there is none; `from` is the offset that a refusal has, 0 outside reading
+abbrev pub gives_plan : {U : Type 0} → (U → U → Type 0) → (U → Result Plan (At Refusal) → Type 0) → (U → Outcome)
+    → List ℕ → (ℕ → ℕ) → Entry
+gives_plan {U} Alike Is check numbers from =
+    record {
+      Subject = U;
+      Same = Alike;
+      More = Unit {0};
+      Reply = Result Plan (At Refusal);
+      Is = λ u more r. Is u r;
+      check = λ u more. check u;
+      numbers = numbers;
+      number = reading_number;
+      Refuses = λ more why offset r. r ≡ Err (at why (from offset));
     }
 
 -- `read`
 abbrev pub read_entry : Entry
 read_entry =
-    record {
-      Subject = List ℕ;
-      Same = λ s t. s ≡ t;
-      More = Unit {0};
-      Reply = Reading;
-      Is = λ s more r. (r ≡ read_of s) × Rewritten s r;
-      check = λ s more. read_check s;
-      numbers = read_numbers;
-      number = λ r. number_of r.outcome;
-      Refuses = λ more k offset r. r ≡ record { outcome = outcome.Refused k offset; plan = no_plan };
-    }
+    gives_plan (λ s t. s ≡ t) (λ s r. (r ≡ read_of s) × Rewritten s r) read_check read_numbers (λ offset. offset)
 
 -- `write`
 abbrev pub write_entry : Entry
@@ -69,15 +78,4 @@ rewritten_entry = writes (λ s t. s ≡ t) Copied copy_check copy_numbers
 
 -- `reread`
 abbrev pub reread_entry : Entry
-reread_entry =
-    record {
-      Subject = Plan;
-      Same = Same;
-      More = Unit {0};
-      Reply = Reading;
-      Is = λ plan more r. r ≡ reread_of plan;
-      check = λ plan more. plan_check plan;
-      numbers = plan_numbers;
-      number = λ r. number_of r.outcome;
-      Refuses = λ more k offset r. r ≡ record { outcome = outcome.Refused k 0; plan = no_plan };
-    }
+reread_entry = gives_plan Same (λ plan r. r ≡ reread_of plan) plan_check plan_numbers (λ offset. 0)

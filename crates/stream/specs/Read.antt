@@ -1,17 +1,16 @@
 -- Reading a plan stream: what is refused where, and the plan that a stream holds (document 01, Refusal numbers).
-use Rattle.std.specs.Prelude.{List, ℕ, zero, suc, ◌+◌, ◌*◌, ◌/◌, ◌%◌, ltb, eqb, get_or}
-use Rattle.records.specs.Refusal as refusal
-use Rattle.records.specs.First.{pick, unless, or_else, first_of}
+use Rattle.std.specs.Prelude.{List, ℕ, Result, Ok, Err, zero, suc, ◌+◌, ◌*◌, ◌/◌, ◌%◌, ltb, eqb, get_or}
+use Rattle.records.specs.declared.refusal.Refusal.TheVariants as refusal
+use Rattle.records.specs.declared.refusal.At.{At}
+use Rattle.records.specs.declared.refusal.Refusal.{Refusal}
+use Rattle.records.specs.First.{pick, unless, or_else, first_of, Outcome}
 use Rattle.records.specs.Pieces.{padded}
 use Rattle.records.specs.Record.{word, record_check, over_check}
-use Rattle.records.specs.declared.Outcome.{Outcome}
-use Rattle.records.specs.declared.Outcome.TheVariants.{Fine, Refused}
 use Rattle.plan.specs.declared.Client.{Client}
 use Rattle.plan.specs.declared.Plan.{Plan}
-use Rattle.plan.specs.Plan.{no_client, no_plan}
+use Rattle.plan.specs.Plan.{no_client}
 use Rattle.plan.specs.Check.{frame_check, count_check, client_check, owner_check}
-use Rattle.stream.specs.Kind.{head_kind, client_kind, row_kind, end_kind, body_of, whole_of, class_of, rows_of}
-use Rattle.stream.specs.declared.Reading.{Reading}
+use Rattle.stream.specs.Kind.{head_kind, client_kind, row_kind, end_kind, body_of, whole_of, kind_check, rows_of}
 
 -- ---- places: records follow one another, each as long as its kind says
 
@@ -28,7 +27,7 @@ place s at (suc k) = next_place s (place s at k)
 
 -- a record where a kind is due
 unfoldable pub due_check : List ℕ → ℕ → ℕ → Outcome
-due_check s at due = record_check s at (class_of due (get_or s at 0)) (body_of (get_or s at 0))
+due_check s at due = record_check s at (kind_check due (get_or s at 0)) (body_of (get_or s at 0)) refusal.Ended
 
 -- f, as the head holds it
 abbrev pub f_in : List ℕ → ℕ
@@ -48,7 +47,7 @@ client_at s at = record { p = word s (at + 2); q = word s (at + 4); a = word s (
 
 -- 7: its number is not the next one
 unfoldable pub number_check : ℕ → ℕ → ℕ → Outcome
-number_check found number at = unless (eqb found number) refusal.not_next at
+number_check found number at = unless (eqb found number) refusal.NotNext at
 
 -- "for a client 7, 8, 9"
 unfoldable pub client_record_check : List ℕ → ℕ → ℕ → Outcome
@@ -62,7 +61,7 @@ client_due_check s at i = client_record_check s (place s at i) (i + 1)
 
 -- the byte of slot x: its owner, 10; past f 255, 11
 unfoldable pub slot_check : ℕ → ℕ → ℕ → ℕ → ℕ → Outcome
-slot_check f n x byte at = pick (ltb x f) (owner_check byte n at) (unless (eqb byte 255) refusal.past_frame at)
+slot_check f n x byte at = pick (ltb x f) (owner_check byte n at) (unless (eqb byte 255) refusal.PastFrame at)
 
 -- slot t of row j, whose record is at a place
 unfoldable pub slot_due_check : List ℕ → ℕ → ℕ → ℕ → ℕ → ℕ → Outcome
@@ -124,11 +123,11 @@ plan_of s =
 
 -- ---- the answer
 
--- the plan, or "a plan with every number 0"
-abbrev pub plan_if : Outcome → Plan → Plan
-plan_if Fine plan = plan
-plan_if (Refused k offset) plan = no_plan
+-- a plan, or why there is none
+abbrev pub plan_if : Outcome → Plan → Result Plan (At Refusal)
+plan_if (Ok u) plan = Ok plan
+plan_if (Err refused) plan = Err refused
 
--- "A refused read returns the number, the offset .., and a plan with every number 0"
-unfoldable pub read_of : List ℕ → Reading
-read_of s = record { outcome = read_check s; plan = plan_if (read_check s) (plan_of s) }
+-- "A refused read returns the number, the offset ..", and no plan, where document 01 has one with every number 0
+unfoldable pub read_of : List ℕ → Result Plan (At Refusal)
+read_of s = plan_if (read_check s) (plan_of s)

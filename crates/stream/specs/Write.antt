@@ -1,19 +1,15 @@
 -- The stream of a plan, and what a write gives (document 01, Plan stream and Refusal numbers).
-use Rattle.std.specs.Prelude.{◌≡◌, List, [], ◌∷◌, ◌++◌, ℕ, ◌+◌, ◌*◌, ltb, leb, length, drop}
-use Rattle.records.specs.Refusal as refusal
-use Rattle.records.specs.First.{pick, unless, or_else}
-use Rattle.records.specs.Said.{Said, given, refused}
+use Rattle.std.specs.Prelude.{◌≡◌, List, [], ◌∷◌, ◌++◌, ℕ, ◌+◌, ◌*◌, ltb, leb, length, drop, Ok, Err}
+use Rattle.records.specs.declared.refusal.Refusal.TheVariants as refusal
+use Rattle.records.specs.First.{pick, unless, or_else, Outcome}
+use Rattle.records.specs.Said.{Said}
 use Rattle.records.specs.Pieces.{many, firsts}
 use Rattle.records.specs.Record.{be}
-use Rattle.records.specs.declared.Outcome.{Outcome}
-use Rattle.records.specs.declared.Outcome.TheVariants as outcome
 use Rattle.plan.specs.declared.Client.{Client}
 use Rattle.plan.specs.declared.Plan.{Plan}
 use Rattle.plan.specs.Plan.{client_of, owner_of}
 use Rattle.plan.specs.Check.{plan_check}
 use Rattle.stream.specs.Kind.{head_kind, client_kind, row_kind, end_kind, rows_of}
-use Rattle.stream.specs.declared.WriteAnswer.{WriteAnswer}
-use Rattle.stream.specs.declared.WriteAnswer.TheVariants as written
 
 -- ---- the stream
 
@@ -54,32 +50,27 @@ longest = 156
 
 -- "All else that takes a plan checks it first .. Then: writing 12"
 unfoldable pub write_check : Plan → ℕ → Outcome
-write_check plan room = or_else (plan_check plan) (unless (leb (length (stream_of plan)) room) refusal.room 0)
+write_check plan room = or_else (plan_check plan) (unless (leb (length (stream_of plan)) room) refusal.Room 0)
 
--- an outcome as an answer: the stream's length, or the refusal's number
-abbrev pub written_by : Outcome → ℕ → WriteAnswer
-written_by outcome.Fine size = written.Given size
-written_by (outcome.Refused k offset) size = written.Refused k
+-- an outcome as an answer: the stream's length, or why it is refused
+abbrev pub written_by : Outcome → ℕ → Said ℕ
+written_by (Ok u) size = Ok size
+written_by (Err refused) size = Err refused.why
 
 -- the answer of a write
-unfoldable pub written_of : Plan → ℕ → WriteAnswer
+unfoldable pub written_of : Plan → ℕ → Said ℕ
 written_of plan room = written_by (write_check plan room) (length (stream_of plan))
 
 -- "A write that succeeds touches only the stream's length of bytes"; a refusal "leaves a lent output untouched"
 abbrev pub bytes_by : Outcome → List ℕ → List ℕ → List ℕ
-bytes_by outcome.Fine stream out = stream ++ drop (length stream) out
-bytes_by (outcome.Refused k offset) stream out = out
+bytes_by (Ok u) stream out = stream ++ drop (length stream) out
+bytes_by (Err refused) stream out = out
 
 -- the lent bytes after a write
 unfoldable pub bytes_of : Plan → List ℕ → List ℕ
 bytes_of plan out = bytes_by (write_check plan (length out)) (stream_of plan) out
 
 -- what a write into out gives, r, and leaves there, now
-pub record Wrote (plan : Plan) (out : List ℕ) (r : WriteAnswer) (now : List ℕ) : Type 0 where
+pub record Wrote (plan : Plan) (out : List ℕ) (r : Said ℕ) (now : List ℕ) : Type 0 where
   pub answer : r ≡ written_of plan (length out)
   pub bytes : now ≡ bytes_of plan out
-
--- what an answer says: the stream's length, or the refusal's number
-abbrev pub write_said : WriteAnswer → Said ℕ
-write_said (written.Given size) = given size
-write_said (written.Refused k) = refused k

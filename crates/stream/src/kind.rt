@@ -1,16 +1,42 @@
 // The kinds of a plan stream's records, and the table of their body lengths, which reader and writer share.
 ghost use Rattle.std.specs.Prelude.{◌≡◌, ◌*◌, ◌<◌, ◌≤◌};
-ghost use Rattle.stream.specs.Kind.{head_kind, client_kind, row_kind, end_kind, body_of, whole_of, class_of};
+ghost use Rattle.stream.specs.Kind.{code, body_of, whole_of, kind_check, rows_of};
 
-use records::{refusal, wide};
+use records::refusal::Refusal;
+use records::wide;
 
-pub const HEAD: u8 = 1; // f, n
+// The kinds, each with its byte.
+#[derive(Clone, Copy)]
+pub enum Kind {
+    Head = 1, // f, n
+    Client = 2, // client number, p, q, a, b
+    Row = 3, // owners of the next eight slots
+    End = 9, // end
+}
 
-pub const CLIENT: u8 = 2; // client number, p, q, a, b
+impl Kind {
+    // The length of its body.
+    pub fn body(self) -> usize
+        ensures { (result ≡ body_of (code self)) × (result < 256) }
+    {
+        body_of(self as u8)
+    }
 
-pub const ROW: u8 = 3; // owners of the next eight slots
+    // The length of a whole record.
+    pub fn whole(self) -> usize
+        ensures { (result ≡ whole_of (code self)) × (result ≤ 256) }
+    {
+        whole_of(self as u8)
+    }
 
-pub const END: u8 = 9; // end
+    // The length of k records.
+    pub fn length(self, k: usize) -> usize
+        requires { k ≤ 8 }
+        ensures { result ≡ whole_of (code self) * k }
+    {
+        self.whole() * k
+    }
+}
 
 // Body lengths by kind, 0 to 15.
 const BODY: [u8; 16] = [0, 2, 9, 8, 0, 0, 0, 0, 0, 0, 0, 0, 0, 0, 0, 0];
@@ -19,8 +45,7 @@ const BODY: [u8; 16] = [0, 2, 9, 8, 0, 0, 0, 0, 0, 0, 0, 0, 0, 0, 0, 0];
 pub fn body_of(kind: u8) -> usize
     ensures { (result ≡ body_of kind) × (result < 256) }
 {
-    let k = wide(kind);
-    if k < 16 { wide(BODY[k]) } else { 0 }
+    wide(BODY.get(wide(kind)).copied().unwrap_or(0))
 }
 
 // A whole record: one byte of kind, then its body.
@@ -30,68 +55,21 @@ pub fn whole_of(kind: u8) -> usize
     1 + body_of(kind)
 }
 
-// The length of k clients' records.
-pub fn clients_length(k: usize) -> usize
-    requires { k ≤ 8 }
-    ensures { result ≡ whole_of client_kind * k }
+// As many rows as f needs.
+pub fn rows_of(f: usize) -> usize
+    ensures { result ≡ rows_of f }
 {
-    whole_of(CLIENT) * k
+    f.div_ceil(8)
 }
 
-// The length of k rows.
-pub fn rows_length(k: usize) -> usize
-    requires { k ≤ 8 }
-    ensures { result ≡ whole_of row_kind * k }
+// Where a kind is due: 2 for a kind byte that is reserved, 3 for one that is known and not due here.
+#[tactic(auto, unfolding(crate::specs::Kind::kind_check))]
+pub fn check_kind(byte: u8, due: Kind) -> Result<(), Refusal>
+    ensures { result ≡ kind_check (code due) byte }
 {
-    whole_of(ROW) * k
-}
-
-// ---- what a kind is: 0 where it is due, else the refusal, known but not due or reserved
-
-// Where the head is due.
-#[tactic(auto, unfolding(crate::specs::Kind::class_of))]
-pub fn class_for_head(kind: u8) -> u8
-    ensures { result ≡ class_of head_kind kind }
-{
-    match kind {
-        HEAD => 0,
-        CLIENT | ROW | END => refusal::NOT_DUE,
-        0 | 4..=8 | 10..=255 => refusal::RESERVED,
-    }
-}
-
-// Where a client is due.
-#[tactic(auto, unfolding(crate::specs::Kind::class_of))]
-pub fn class_for_client(kind: u8) -> u8
-    ensures { result ≡ class_of client_kind kind }
-{
-    match kind {
-        CLIENT => 0,
-        HEAD | ROW | END => refusal::NOT_DUE,
-        0 | 4..=8 | 10..=255 => refusal::RESERVED,
-    }
-}
-
-// Where a row is due.
-#[tactic(auto, unfolding(crate::specs::Kind::class_of))]
-pub fn class_for_row(kind: u8) -> u8
-    ensures { result ≡ class_of row_kind kind }
-{
-    match kind {
-        ROW => 0,
-        HEAD | CLIENT | END => refusal::NOT_DUE,
-        0 | 4..=8 | 10..=255 => refusal::RESERVED,
-    }
-}
-
-// Where the end is due.
-#[tactic(auto, unfolding(crate::specs::Kind::class_of))]
-pub fn class_for_end(kind: u8) -> u8
-    ensures { result ≡ class_of end_kind kind }
-{
-    match kind {
-        END => 0,
-        HEAD | CLIENT | ROW => refusal::NOT_DUE,
-        0 | 4..=8 | 10..=255 => refusal::RESERVED,
+    match byte {
+        0 | 4..=8 | 10..=255 => Err(Refusal::Reserved),
+        _ if byte == due as u8 => Ok(()),
+        _ => Err(Refusal::NotDue),
     }
 }

@@ -13,92 +13,48 @@ ghost use Rattle.stream.specs.Write.{Wrote};
 ghost use Rattle.stream.specs.Trip.{Rewritten, Reread, Copied, reread_of};
 
 use plan::Plan;
-use records::{Outcome, refusal};
+use records::refusal::{Refusal, Refused};
 
 // The bytes of the longest stream.
 pub const LONGEST: usize = 156;
 
-// What a read gives: the plan where nothing is refused, else a plan with every number 0.
-#[derive(Clone, Copy)]
-pub struct Reading {
-    pub outcome: Outcome,
-    pub plan: Plan,
-}
-
-// What a write gives: the stream's length in bytes, or the refusal's number.
-#[derive(Clone, Copy)]
-pub enum WriteAnswer {
-    Given(usize),
-    Refused(u8),
-}
-
 // The plan of a stream; what is read is written back byte for byte.
-pub fn read(s: &[u8]) -> Reading
+pub fn read(s: &[u8]) -> Result<Plan, Refused>
     ensures is { result ≡ read_of s.now }
     ensures back { Rewritten s.now result }
 {
-    let outcome = reader::check_stream(s);
-    match outcome {
-        Outcome::Fine => {
-            let plan = reader::plan_at(s);
-            Reading {
-                outcome: outcome,
-                plan: plan,
-            }
-        },
-        Outcome::Refused(_, _) => {
-            let plan = plan::no_plan();
-            Reading {
-                outcome: outcome,
-                plan: plan,
-            }
-        },
-    }
+    reader::check_stream(s)?;
+    Ok(reader::plan_at(s))
 }
 
-// The plan's stream, put at the front of a lent output; what is written is read back as the same plan.
-pub fn write(plan: Plan, out: &mut [u8]) -> WriteAnswer
+// The plan's stream, put at the front of a lent output; what is written is read back as the same plan. The answer is
+// the stream's length in bytes.
+pub fn write(plan: Plan, out: &mut [u8]) -> Result<usize, Refusal>
     ensures is { Wrote plan out.old result out.new }
     ensures back { Reread plan result out.new }
 {
-    let outcome = plan::check(plan);
-    if let Outcome::Refused(number, _) = outcome {
-        return WriteAnswer::Refused(number);
-    }
+    plan::check(plan)?;
     if out.len() < writer::stream_length(plan) {
-        return WriteAnswer::Refused(refusal::ROOM);
+        return Err(Refusal::Room);
     }
-    WriteAnswer::Given(writer::put_stream(out, plan))
+    Ok(writer::put_stream(out, plan))
 }
 
 // A stream is read and its plan is written: the stream's own bytes again, or its refusal, or 12.
-pub fn rewritten(s: &[u8], out: &mut [u8]) -> WriteAnswer
+pub fn rewritten(s: &[u8], out: &mut [u8]) -> Result<usize, Refusal>
     ensures { Copied s.now out.old result out.new }
 {
-    let reading = read(s);
-    let outcome = reading.outcome;
-    let plan = reading.plan;
-    if let Outcome::Refused(refused, _) = outcome {
-        return WriteAnswer::Refused(refused);
-    }
+    let plan = read(s)?;
     write(plan, out)
 }
 
 // A plan is written and its stream is read: the same plan, 0 past f and past n, or its refusal.
-pub fn reread(plan: Plan) -> Reading
+pub fn reread(plan: Plan) -> Result<Plan, Refused>
     ensures { result ≡ reread_of plan }
 {
-    let mut bytes = [0u8; LONGEST];
-    let written = write(plan, &mut bytes);
-    match written {
-        WriteAnswer::Given(size) => read(&bytes[..size]),
-        WriteAnswer::Refused(number) => {
-            let outcome = Outcome::Refused(number, 0);
-            let none = plan::no_plan();
-            Reading {
-                outcome: outcome,
-                plan: none,
-            }
-        },
+    let mut bytes = [0; LONGEST];
+    match write(plan, &mut bytes) {
+        Ok(size) => read(&bytes[..size]),
+        Err(why) => Err(why.at(0)),
     }
 }

@@ -4,16 +4,16 @@ use mathlib.Core.Path.{◌≡◌, refl, ap, sym, ◌∙◌}
 use mathlib.Core.List.{List, [], ◌∷◌, ◌++◌}
 use mathlib.Core.Logic.{⊎_elim}
 use Prim.Native.Nat.{ℕ, zero, suc, ◌+◌, ◌*◌, ◌/◌, ◌%◌, ◌^◌, ◌≤◌, ◌<◌}
-use native.Mathlib.Nat.{lt_trans, div-lt_self, div-lt_iff_lt-mul, mod-eq_of_lt, pow-suc}
+use native.Mathlib.Nat.{lt_trans, div-lt_self, div-lt_iff_lt-mul, pow-suc}
 use native.Mathlib.Numerals.{add-one}
 use native.Mathlib.Omega.{arith}
 use borrow.Author.Tests.{lt-ltb, le-ltb}
-use lib.ListN.{length, take, get_or, length-append}
-use lib.Seq.{sets, take-suc, length-take-le}
-use Rattle.records.specs.Put.{Put}
+use lib.ListN.{length, length-append}
+use lib.Seq.{sets, length-take-le}
+use Rattle.records.specs.declared.output.Output.{Output}
 use Rattle.records.proofs.Checks.{below_or_not}
 use Rattle.records.proofs.Puts.{none, then}
-use Rattle.text.specs.Text.{digit, decimal, decimal_of, Lines, Puts, Lendable}
+use Rattle.text.specs.Text.{digit, decimal, decimal_of, Lines, Puts, AddsOne, Lendable}
 
 -- ---- digits
 
@@ -43,9 +43,9 @@ decimal_enough (suc k) (suc i) x l m =
     ∙ sym (decimal_long i x h))
     (below_or_not x 10)
 
-pub one_digit : (x : ℕ) → x < 10 → decimal_of x ≡ digit (x % 10) ∷ []
+pub one_digit : (x : ℕ) → x < 10 → decimal_of x ≡ digit x ∷ []
 unfolding decimal_of
-one_digit x h = rw (mod-eq_of_lt h) (decimal_short x x h)
+one_digit x h = decimal_short x x h
 
 pub last_digit : (x : ℕ) → 10 ≤ x → decimal_of x ≡ decimal_of (x / 10) ++ (digit (x % 10) ∷ [])
 unfolding decimal_of
@@ -81,14 +81,6 @@ twenty_most x l = digits_most 19 x (lt_trans l below)
     below : 18446744073709551616 < 10 ^ 20
     below = omega arith
 
--- ---- byte by byte
-
--- one turn of the loop that puts a text
-pub then_byte : {o₀ o₁ o₂ : List ℕ} {a₀ a₁ a₂ : ℕ} (text : List ℕ) (i : ℕ) → i < length text
-    → Put o₀ a₀ (take i text) o₁ a₁ → Put o₁ a₁ (get_or text i 0 ∷ []) o₂ a₂
-    → Put o₀ a₀ (take (i + 1) text) o₂ a₂
-then_byte text i l p q = rw (add-one, take-suc text i 0 l) (then p q)
-
 -- ---- line by line
 
 -- no line put, and one turn of the loop that puts lines
@@ -105,6 +97,15 @@ then_line P n p q =
       is = rw add-one (p.text, q.text, (p.is, q.is, refl));
       put = then p.put q.put;
     }
+
+-- the same of an output
+pub adds_no_line : (P : ℕ → List ℕ → Type 0) (o : Output) → AddsOne (Lines P 0) o o
+adds_no_line P o = record { puts = puts_none P o.lent.now o.at; long = refl; same = refl }
+
+pub adds_line : {o₀ o₁ o₂ : Output} (P : ℕ → List ℕ → Type 0) (n : ℕ) → AddsOne (Lines P n) o₀ o₁
+    → AddsOne (P n) o₁ o₂ → AddsOne (Lines P (n + 1)) o₀ o₂
+adds_line P n p q =
+    record { puts = then_line P n p.puts q.puts; long = q.long ∙ p.long; same = q.same ∙ p.same }
 
 -- where each line is one text, so are all
 pub lines_once : (P : ℕ → List ℕ → Type 0) → ((i : ℕ) (a b : List ℕ) → P i a → P i b → a ≡ b) → (n : ℕ)

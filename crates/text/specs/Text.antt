@@ -5,6 +5,7 @@ use Prim.Native.Char.{code}
 use Prim.Native.String.{String}
 use Prim.Native.String as str
 use Rattle.records.specs.First.{pick}
+use Rattle.records.specs.declared.output.Output.{Output}
 use Rattle.records.specs.Put.{Put}
 
 -- the bytes of a quoted text of ASCII
@@ -42,9 +43,11 @@ pub record Puts (Is : List ℕ → Type 0) (out : List ℕ) (at : ℕ) (now : Li
   pub is : Is text
   pub put : Put out at text now next
 
--- a page, of 2,048 bytes, has room for k from the place at on
-abbrev pub Room : ℕ → ℕ → Type 0
-Room at k = at + k ≤ 2048
+-- the same of an output, which is still over the same memory, as long as before
+pub record AddsOne (Is : List ℕ → Type 0) (old new : Output) : Type 0 where
+  pub puts : Puts Is old.lent.now old.at new.lent.now new.at
+  pub long : length new.lent.now ≡ length old.lent.now
+  pub same : new.lent.ghost_name ≡ old.lent.ghost_name
 
 -- the first r bytes of out can be lent as `&out[..r]`: what the kit asks of a program that does so. The second part
 -- follows from the first

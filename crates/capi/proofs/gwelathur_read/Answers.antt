@@ -1,15 +1,19 @@
--- `capi::gwelathur_read` meets its contract: the outcome is that of the reading.
+-- `capi::gwelathur_read` meets its contract: what the checks found is what reading says.
 -- Assumes nothing.
-use mathlib.Core.Path.{ap, ◌∙◌}
+use mathlib.Core.Path.{sym, ap, ◌∙◌}
 use Rattle.records.specs.First.{number_of, offset_of}
-use Rattle.stream.specs.declared.Reading.{Reading}
+use Rattle.stream.proofs.Answers.{reading_found, reading_refused}
 use Rattle.capi.proofs.gwelathur_read.Goals as goal
 
-pub returns : goal.returns
-returns c =
-    let tell = c.tell_outcome.ensures in
-    let read = c.read-reading.ensures.is in
+pub returns-in-Ok : goal.returns-in-Ok
+returns-in-Ok c =
+    let fine = (reading_found _ (sym c.read.ensures.is ∙ c.in-Ok.is)).0 in
+    record { returned = sym (ap number_of fine); stored = sym (ap offset_of fine) }
+
+pub returns-in-Err : goal.returns-in-Err
+returns-in-Err c =
+    let refused = reading_refused _ (sym c.read.ensures.is ∙ c.in-Err.is) in
     record {
-      returned = tell.0 ∙ ap (λ (x : Reading). number_of x.outcome) read;
-      stored = tell.1 ∙ ap (λ (x : Reading). offset_of x.outcome) read;
+      returned = c.wide.ensures.0 ∙ c.into.ensures ∙ sym (ap number_of refused);
+      stored = sym (ap offset_of refused);
     }

@@ -1,11 +1,18 @@
--- `capi::gwelathur_search_whole` meets its contract: what the search answers of the requirements read is told.
+-- `capi::gwelathur_search_whole` meets its contract: the output has room for the stream of the plan found.
 -- Assumes nothing.
-use Rattle.capi.proofs.Laws.{told_search}
+use mathlib.Core.Path.{◌≡◌, sym, ◌∙◌}
+use native.Mathlib.Omega.{arith}
+use lib.ListN.{length}
+use borrow.Author.Rules.{rules}
+use Rattle.stream.specs.Write.{longest}
+use Rattle.capi.proofs.Laws.{found_fits, found_told}
 use Rattle.capi.proofs.gwelathur_search_whole.Goals as goal
 
-pub returns : goal.returns
-returns c =
-    let search = c.search-searched in
-    let read = c.read-reading in
-    let tell = c.tell_searched.ensures in
-    told_search search.result read.ensures.is search.ensures tell.0 c.first_number.ensures tell.1
+pub put_stream-requires : goal.put_stream-requires
+put_stream-requires c =
+    let found = c.in-Ok-Some in
+    let is = rw found.is-0 at c.searched.ensures in
+    let told = found_told c.searched.result found.owners (sym c.told-number.ensures.1 ∙ found.is-1) in
+    let fits = found_fits found.plan found.owners (rw told at is) in
+    let room : length c.args.out.now ≡ longest = search rules in
+    rw c.with_table.ensures (fits.0, fits.1, omega (arith, fits.2, room))

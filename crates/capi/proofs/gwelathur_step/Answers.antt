@@ -1,17 +1,26 @@
--- `capi::gwelathur_step` meets its contract: the step on the plan that was read is told.
+-- `capi::gwelathur_step` meets its contract: what is told of a step fits into bytes.
 -- Assumes nothing.
-use Rattle.capi.proofs.Laws.{told_step, step_small}
+use native.Mathlib.Omega.{arith}
+use borrow.Author.Rules.{rules}
+use Rattle.stream.specs.Read.{read_of}
+use Rattle.capi.specs.Calls.{OfRead, IsStep}
+use Rattle.capi.proofs.Laws.{told_small}
 use Rattle.capi.proofs.gwelathur_step.Goals as goal
 
-pub tell_stepped-requires : goal.tell_stepped-requires
-tell_stepped-requires c =
-    rw c.step-stepped.ensures (step_small _ _ _ c.record_in-record.ensures.1)
-
-pub returns : goal.returns
-returns c =
-    let step = c.step-stepped in
+pub overflow_cast-stepped : goal.overflow_cast-stepped
+overflow_cast-stepped c =
+    let args = c.args in
     let record_in = c.record_in-record in
-    let read = c.read-reading in
-    let tell = c.tell_stepped.ensures in
-    told_step step.result read.ensures.is record_in.ensures.0 step.ensures tell.0
-    c.first_number.ensures tell.1 tell.2
+    let said = c.asked-said.result in
+    let is : OfRead (IsStep record_in.result args.arrivals.now) (read_of args.s.now) said = search rules in
+    let small = told_small record_in.result args.arrivals.now record_in.ensures.1 _ said is in
+    rw c.told-number.ensures.1 (omega (arith, small.0))
+
+pub overflow_cast-stepped-2 : goal.overflow_cast-stepped-2
+overflow_cast-stepped-2 c =
+    let args = c.args in
+    let record_in = c.record_in-record in
+    let said = c.asked-said.result in
+    let is : OfRead (IsStep record_in.result args.arrivals.now) (read_of args.s.now) said = search rules in
+    let small = told_small record_in.result args.arrivals.now record_in.ensures.1 _ said is in
+    rw c.told-number.ensures.1 (omega (arith, small.1))

@@ -10,30 +10,20 @@ use Rattle.stream.proofs.reread.Goals as goal
 
 pub slice_bounds-bytes-end : goal.slice_bounds-bytes-end
 slice_bounds-bytes-end c =
-    let args = c.args in
-    let write = c.write-written in
-    let w = write.ensures.is in
-    (fitted args.plan (replicate longest 0) _ _ _ w c.in-Given.is).fits
+    (fitted c.args.plan (replicate longest 0) _ _ _ c.write.ensures.is c.in-Ok.is).fits
 
 pub slice_bounds-read-end : goal.slice_bounds-read-end
 slice_bounds-read-end c =
-    let args = c.args in
-    let write = c.write-written in
-    let w = write.ensures.is in
-    let f = fitted args.plan (replicate longest 0) _ _ _ w c.in-Given.is in
-    sym (length-take-le _ write.new.out f.fits)
+    let f = fitted c.args.plan (replicate longest 0) _ _ _ c.write.ensures.is c.in-Ok.is in
+    sym (length-take-le _ c.write.new.out f.fits)
 
-pub returns-in-Given : goal.returns-in-Given
-returns-in-Given c =
-    let args = c.args in
-    let write = c.write-written in
-    let w = write.ensures in
-    let f = fitted args.plan (replicate longest 0) _ _ _ w.is c.in-Given.is in
-    reread_given args.plan _ _ _ c.read.result f.passed w.back c.in-Given.is c.read.ensures.is
+pub returns-in-Ok : goal.returns-in-Ok
+returns-in-Ok c =
+    let w = c.write.ensures in
+    let f = fitted c.args.plan (replicate longest 0) _ _ _ w.is c.in-Ok.is in
+    reread_given c.args.plan _ _ _ c.read.result f.passed w.back c.in-Ok.is c.read.ensures.is
 
-pub returns-in-Refused : goal.returns-in-Refused
-returns-in-Refused c =
-    let args = c.args in
-    let write = c.write-written in
-    let w = write.ensures.is in
-    rw c.no_plan-none.ensures (reread_refused args.plan (replicate longest 0) _ _ _ refl w c.in-Refused.is)
+pub returns-in-Err : goal.returns-in-Err
+returns-in-Err c =
+    let stopped = reread_refused c.args.plan (replicate longest 0) _ _ _ refl c.write.ensures.is c.in-Err.is in
+    rw (sym c.at.ensures) at stopped

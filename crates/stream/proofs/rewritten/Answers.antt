@@ -1,19 +1,16 @@
 -- `stream::rewritten` meets its contract: the read's refusal, or what the write gives of the plan read.
 -- Assumes nothing.
+use Rattle.std.proofs.Common.{rules, ◌≡◌, Err}
+use mathlib.Core.Path.{sym, ◌∙◌}
 use Rattle.stream.proofs.Trips.{copy_refused, copied}
 use Rattle.stream.proofs.rewritten.Goals as goal
 
-pub returns-in-Refused : goal.returns-in-Refused
-returns-in-Refused c =
-    let args = c.args in
-    let read = c.read-reading in
-    copy_refused args.s.now args.out.now read.result _ _ read.ensures.is c.in-Refused.is
+pub returns-in_err-plan : goal.returns-in_err-plan
+returns-in_err-plan c =
+    let gives : c.from_residual.result ≡ Err c.in_err-plan.field-0.0.why = search rules in
+    rw gives (copy_refused c.args.s.now c.args.out.now (sym c.read.ensures.is ∙ c.in_err-plan.was))
 
 pub returns : goal.returns
 returns c =
-    let args = c.args in
-    let read = c.read-reading in
-    let write = c.write in
-    let a = read.ensures in
-    let w = write.ensures.is in
-    copied args.s.now args.out.now read.result _ _ a.is a.back c.in_default.is w
+    let read = c.read.ensures in
+    copied c.args.s.now c.args.out.now _ _ (rw read.is at read.back) (sym read.is ∙ c.in_ok-plan.was) c.write.ensures.is

@@ -3,19 +3,15 @@
 -- was before the loop.
 -- Assumes nothing.
 use mathlib.Core.Path.{◌≡◌}
-use Prim.Native.Nat.{◌-◌, ◌≤◌}
-use lib.ListN.{length, get_or}
+use lib.ListN.{get_or}
 use Rattle.frame.specs.Queue.{one_slot, queue}
 use Rattle.records.specs.Pieces.{onto}
 use Rattle.arbiter.proofs.inner.arrive.Given as goal
 
 abbrev pub invariant-loop-i : goal.invariant-loop-i
-invariant-loop-i l =
-    (l.i ≤ l.n) × (length l.pending ≡ length l.initial.pending) × (length l.turned ≡ length l.initial.turned)
-    × (l.pending ≡ onto (λ k. queue one_slot (get_or l.initial.pending k 0) (get_or l.arrivals k 0)) l.i
-    l.initial.pending)
-    × (l.turned ≡ onto (λ k. one_slot.turns (get_or l.initial.pending k 0) (get_or l.arrivals k 0)) l.i
-    l.initial.turned)
-
-abbrev pub decreases-loop-i : goal.decreases-loop-i
-decreases-loop-i l = l.n - l.i
+invariant-loop-i l = record {
+  joined : l.pending ≡ onto (λ k. queue one_slot (get_or l.initial.pending k 0) (get_or l.arrivals k 0)) l.i
+      l.initial.pending;
+  turned_away : l.turned ≡ onto (λ k. one_slot.turns (get_or l.initial.pending k 0) (get_or l.arrivals k 0)) l.i
+      l.initial.turned;
+}

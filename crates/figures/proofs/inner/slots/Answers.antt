@@ -1,40 +1,31 @@
--- `figures::inner::slots` meets its contract: the loop has counted the client's slots among the first `at`.
+-- `figures::inner::slots` meets its contract: the loop has counted the client's slots among the first.
 -- Assumes nothing.
-use mathlib.Core.Path.{◌≡◌, refl}
+use mathlib.Core.Path.{refl}
 use native.Mathlib.Omega.{arith}
-use lib.ListN.{get_or}
+use Prim.Native.Nat.{◌<◌}
+use lib.ListN.{get_or, take}
+use lib.Seq.{get_or-take}
 use Rattle.frame.specs.Frame.{within}
 use Rattle.plan.proofs.Laws.{client_most}
 use Rattle.figures.proofs.Laws.{count_small, place_first, count_on}
 use Rattle.figures.proofs.inner.slots.Goals as goal
 
-pub loop-at-init : goal.loop-at-init
+pub loop-owner-init : goal.loop-owner-init
 unfolding within
-loop-at-init c = (omega arith, refl)
+loop-owner-init c = refl
 
 pub overflow_add-m : goal.overflow_add-m
 overflow_add-m c =
-    let args = c.args in
-    let plan = args.plan in
-    let loop = c.loop-at in
-    let counted = count_small plan.owners plan.f args.client 0 loop.at (omega arith) in
-    let most = client_most args.client (get_or plan.owners loop.at 0) in
+    let plan = c.args.plan in
+    let at = c.loop-owner.owner-index in
+    let counted = count_small plan.owners plan.f c.args.client 0 at (omega arith) in
+    let most = client_most c.args.client (get_or (take plan.f plan.owners) at 0) in
     omega (arith, c.owned_by-m.ensures)
 
-pub loop-at-preserved : goal.loop-at-preserved
-loop-at-preserved c =
-    let args = c.args in
-    let plan = args.plan in
-    let loop = c.loop-at in
-    let at = loop.at in
-    let place = place_first plan.f at (omega arith) in (
-      omega arith,
-      count_on plan.owners plan.f args.client 0 at loop.m at _ loop.invariant.1 place c.owned_by-m.ensures,
-    )
-
-pub returns : goal.returns
-returns c =
-    let args = c.args in
-    let loop = c.loop-at in
-    let e : loop.at ≡ args.plan.f = omega arith in
-    rw e at loop.invariant.1
+pub loop-owner-preserved : goal.loop-owner-preserved
+loop-owner-preserved c =
+    let plan = c.args.plan in
+    let at = c.loop-owner.owner-index in
+    let below : at < plan.f = omega arith in
+    let owned = rw (get_or-take plan.f plan.owners at 0 below) at c.owned_by-m.ensures in
+    count_on plan.owners plan.f c.args.client 0 at _ at _ c.loop-owner.invariant (place_first plan.f at below) owned

@@ -1,38 +1,41 @@
--- `plan::inner::check_owners` meets its contract: the loop's invariant is that the owners before x pass.
+-- `plan::inner::check_owners` meets its contract: the loop's invariant is that the owners before this one pass.
 -- Assumes nothing.
-use mathlib.Core.Path.{◌≡◌, sym}
-use native.Mathlib.Omega.{arith}
-use borrow.Author.Rules.{rules}
+use Rattle.std.proofs.Common.{rules, ◌≡◌, ◌<◌, Err}
+use mathlib.Core.Path.{sym, ap, ◌∙◌}
+use lib.Seq.{get_or-take}
 use Rattle.records.specs.First.{first_of}
 use Rattle.records.proofs.Checks.{first_more, first_stop}
-use Rattle.plan.specs.Check.{owner_check_of, owners_check}
+use Rattle.plan.specs.Check.{owner_check, owner_check_of, owners_check}
 use Rattle.plan.proofs.inner.check_owners.Goals as goal
 
-pub loop-x-init : goal.loop-x-init
+pub loop-owner-init : goal.loop-owner-init
 unfolding first_of
-loop-x-init c = search rules
+loop-owner-init c = search rules
 
-pub returns-in-Refused : goal.returns-in-Refused
-unfolding owner_check_of owners_check
-returns-in-Refused c =
-    let args = c.args in
-    let check_owner = c.check_owner-outcome in
-    let l = c.loop-x in
-    let plan = args.plan in
-    first_stop (owner_check_of plan) plan.f l.x (omega arith) l.invariant.1 check_owner.ensures
-    c.in-Refused.is
+pub returns-in_err-check_owner : goal.returns-in_err-check_owner
+unfolding owners_check owner_check_of
+returns-in_err-check_owner c =
+    let plan = c.args.plan in
+    let l = c.loop-owner in
+    let below : l.owner-index < plan.f = search rules in
+    let here = ap (λ x. owner_check x plan.n 0) (get_or-take plan.f plan.owners l.owner-index 0 below) in
+    let found = c.check_owner.ensures ∙ here in
+    let gives : c.from_residual.result ≡ Err c.in_err-check_owner.field-0.0 = search rules in
+    gives ∙ first_stop (owner_check_of plan) plan.f l.owner-index below l.invariant found c.in_err-check_owner.was
 
-pub loop-x-preserved : goal.loop-x-preserved
+pub loop-owner-preserved : goal.loop-owner-preserved
 unfolding owner_check_of
-loop-x-preserved c =
-    let args = c.args in
-    let check_owner = c.check_owner-outcome in
-    let l = c.loop-x in
-    let plan = args.plan in
-    (omega arith, first_more (owner_check_of plan) l.x l.invariant.1 check_owner.ensures c.in_default.is)
+loop-owner-preserved c =
+    let plan = c.args.plan in
+    let l = c.loop-owner in
+    let below : l.owner-index < plan.f = search rules in
+    let here = ap (λ x. owner_check x plan.n 0) (get_or-take plan.f plan.owners l.owner-index 0 below) in
+    let found = c.check_owner.ensures ∙ here in
+    first_more (owner_check_of plan) l.owner-index l.invariant found c.in_ok-check_owner.was
 
 pub returns : goal.returns
-unfolding owners_check owner_check_of
+unfolding owners_check
 returns c =
-    let args = c.args in
-    let e : c.loop-x.x ≡ args.plan.f = omega arith in sym (rw e at c.loop-x.invariant.1)
+    let plan = c.args.plan in
+    let l = c.loop-owner in
+    let all : l.owner-index ≡ plan.f = search rules in sym (rw all at l.invariant)

@@ -2,11 +2,12 @@
 -- matters (`due_body`).
 -- Assumes nothing.
 use mathlib.Core.Path.{◌∙◌}
+use Rattle.stream.specs.Kind.{code}
 use Rattle.stream.proofs.Records.{due_body}
 use Rattle.stream.proofs.reader.check_due.Goals as goal
 
 pub returns : goal.returns
 returns c =
     let a = c.args in
-    let found = rw (c.body_of.ensures.0, c.requires) at c.check_record.ensures in
-    found ∙ due_body a.s.now a.at a.due
+    let found = rw (c.body.ensures.0, c.check_kind-found.ensures, c.kind_at.ensures) at c.check_record.ensures in
+    found ∙ due_body a.s.now a.at (code a.due)

@@ -5,44 +5,23 @@ use mathlib.Core.Path.{◌∙◌}
 use native.Mathlib.Omega.{arith}
 use borrow.Author.Rules.{rules}
 use Rattle.records.specs.First.{first_of}
-use Rattle.records.proofs.Checks.{stops, passes}
+use Rattle.records.proofs.Checks.{passes}
 use Rattle.stream.specs.Kind.{row_kind}
 use Rattle.stream.specs.Read.{slot_due_check, row_record_check}
 use Rattle.stream.proofs.Records.{due_found, full_row}
 use Rattle.stream.proofs.reader.check_row.Goals as goal
 
-pub check_due-due-requires : goal.check_due-due-requires
-check_due-due-requires c = rw c.kind_at.ensures at c.class_for_row-class.ensures
-
-pub returns-in-Refused : goal.returns-in-Refused
-unfolding row_record_check
-returns-in-Refused c =
-    let check_due = c.check_due-due in
-    stops _ check_due.ensures c.in-Refused.is
-
 pub check_owners-requires : goal.check_owners-requires
-check_owners-requires c =
-    let check_due = c.check_due-due in
-    (due_found _ _ row_kind check_due.ensures c.in_default.is).room
+check_owners-requires c = (due_found _ _ row_kind c.check_due.ensures c.in_ok-check_due.was).room
 
 pub returns-then-j-f : goal.returns-then-j-f
 unfolding row_record_check
 returns-then-j-f c =
     let a = c.args in
-    let check_due = c.check_due-due in
     let slots = first_of (slot_due_check a.s.now a.f a.n a.at a.j) 8 in
     let full = full_row a.s.now a.f a.n a.at a.j (omega arith) in
-    passes {y = slots} check_due.ensures c.in_default.is (c.check_owners.ensures ∙ full)
+    passes {y = slots} c.check_due.ensures c.in_ok-check_due.was (c.check_owners.ensures ∙ full)
 
 pub check_slots-requires : goal.check_slots-requires
 check_slots-requires c =
-    let check_due = c.check_due-due in
-    (search rules, (due_found _ _ row_kind check_due.ensures c.in_default.is).room)
-
-pub returns : goal.returns
-unfolding row_record_check
-returns c =
-    let a = c.args in
-    let check_due = c.check_due-due in
-    let slots = first_of (slot_due_check a.s.now a.f a.n a.at a.j) 8 in
-    passes {y = slots} check_due.ensures c.in_default.is c.check_slots.ensures
+    (search rules, (due_found _ _ row_kind c.check_due.ensures c.in_ok-check_due.was).room)

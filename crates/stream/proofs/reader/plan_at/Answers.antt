@@ -17,11 +17,11 @@ pub clients_in-clients-requires : goal.clients_in-clients-requires
 clients_in-clients-requires c =
     let pre = c.requires in
     let s = read_fine _ pre in
-    let at = c.whole_of-to_clients.ensures.0 ∙ sym (to_clients_lem _ s.head) in
+    let at = c.whole-to_clients.ensures.0 ∙ sym (to_clients_lem _ s.head) in
     (omega arith, omega (arith, s.head), rw (at, c.wide-n.ensures.0) s.rest.clients)
 
-pub clients_length-requires : goal.clients_length-requires
-clients_length-requires c =
+pub length-requires : goal.length-requires
+length-requires c =
     let pre = c.requires in
     omega (arith, (read_fine _ pre).head)
 
@@ -30,12 +30,12 @@ owners_in-owners-requires c =
     let pre = c.requires in
     let wide = c.wide-f in
     let wide2 = c.wide-n in
-    let whole_of = c.whole_of-to_clients in
+    let whole_of = c.whole-to_clients in
     let s = read_fine _ pre in
     let f = wide.ensures.0 in
     let n = wide2.ensures.0 in
     let at = whole_of.ensures.0 in
-    let length = c.clients_length.ensures in
+    let length = c.length.ensures in
     (omega (arith, s.head), omega (arith, s.head), rw (at, length, f, n, ← to_rows_lem _ s) s.rest.rows)
 
 pub returns : goal.returns
@@ -44,11 +44,11 @@ returns c =
     let pre = c.requires in
     let wide = c.wide-f in
     let wide2 = c.wide-n in
-    let whole_of = c.whole_of-to_clients in
+    let whole_of = c.whole-to_clients in
     let clients_in = c.clients_in-clients in
     let s = read_fine _ pre in
     let at = whole_of.ensures.0 in
-    let length = c.clients_length.ensures in
+    let length = c.length.ensures in
     let f = wide.ensures.0 in
     let n = wide2.ensures.0 in
     rw (c.owners_in-owners.ensures, clients_in.ensures, length, at, f, n, to_rows_lem _ s, to_clients_lem _ s.head)

@@ -1,17 +1,12 @@
 -- `stream::writer::put_client` meets its contract: two bytes and four words put, one after the other.
 -- Assumes nothing.
-use borrow.Author.Rules.{rules}
-use Rattle.records.proofs.Puts.{then}
+use Rattle.records.proofs.Puts.{adds_then}
 use Rattle.stream.specs.Write.{client_bytes}
 use Rattle.stream.proofs.writer.put_client.Goals as goal
 
--- the type of a client's numbers
-pub returns : goal.returns
+pub returns-clause-put : goal.returns-clause-put
 unfolding client_bytes
-returns c =
-    let number = then c.put_byte-a.ensures c.put_byte-b.ensures in
-    let rate = then (then number c.put_word-c.ensures) c.put_word-d.ensures in
-    record {
-      put = then (then rate c.put_word-e.ensures) c.put_word.ensures;
-      words = search rules;
-    }
+returns-clause-put c =
+    let number = adds_then c.put_byte.ensures c.put_byte-2.ensures in
+    let rate = adds_then (adds_then number c.put_word.ensures) c.put_word-2.ensures in
+    adds_then (adds_then rate c.put_word-3.ensures) c.put_word-4.ensures

@@ -3,45 +3,33 @@
 -- Assumes nothing.
 use native.Mathlib.Omega.{arith}
 use borrow.Author.Rules.{rules}
-use Rattle.records.proofs.Puts.{then, put_length}
+use Rattle.records.proofs.Puts.{adds_then}
 use Rattle.stream.specs.Write.{stream_of}
 use Rattle.stream.proofs.Lengths.{length_parts}
 use Rattle.stream.proofs.writer.put_stream.Goals as goal
 
-pub put_head-to_clients-requires : goal.put_head-to_clients-requires
-put_head-to_clients-requires c = (search rules, search rules, omega (arith, length_parts c.args.plan))
+pub put_head-requires : goal.put_head-requires
+put_head-requires c = (search rules, search rules, omega (arith, length_parts c.args.plan))
 
-pub put_clients-to_rows-requires : goal.put_clients-to_rows-requires
-put_clients-to_rows-requires c =
-    let args = c.args in
-    let put_head = c.put_head-to_clients in
-    let head = put_head.ensures in
-    (search rules, omega (arith, length_parts args.plan, head.place, put_length head))
+pub put_clients-requires : goal.put_clients-requires
+put_clients-requires c =
+    let head = c.put_head.ensures in
+    (search rules, omega (arith, length_parts c.args.plan, head.put.place, head.long))
 
-pub put_rows-to_end-requires : goal.put_rows-to_end-requires
-put_rows-to_end-requires c =
-    let args = c.args in
-    let put_head = c.put_head-to_clients in
-    let put_clients = c.put_clients-to_rows in
-    let head = put_head.ensures in
-    let clients = put_clients.ensures.put in
-    let length = length_parts args.plan in
-    (search rules, omega (arith, head.place, clients.place, put_length head, put_length clients))
+pub put_rows-requires : goal.put_rows-requires
+put_rows-requires c =
+    let clients = adds_then c.put_head.ensures c.put_clients.ensures.put in
+    (search rules, omega (arith, length_parts c.args.plan, clients.put.place, clients.long))
 
 pub put_byte-requires : goal.put_byte-requires
 put_byte-requires c =
-    let head = c.put_head-to_clients.ensures in
-    let clients = c.put_clients-to_rows.ensures.put in
-    let rows = c.put_rows-to_end.ensures in
-    let length = length_parts c.args.plan in
-    omega (arith, head.place, clients.place, rows.place, put_length head, put_length clients, put_length rows)
+    let clients = adds_then c.put_head.ensures c.put_clients.ensures.put in
+    let rows = adds_then clients c.put_rows.ensures in
+    omega (arith, length_parts c.args.plan, rows.put.place, rows.long)
 
-pub returns : goal.returns
+pub returns-clause-put : goal.returns-clause-put
 unfolding stream_of
-returns c =
-    let clients = c.put_clients-to_rows.ensures in
-    let rows = then (then c.put_head-to_clients.ensures clients.put) c.put_rows-to_end.ensures in
-    record {
-      put = then rows c.put_byte.ensures;
-      held = clients.held;
-    }
+returns-clause-put c =
+    let clients = adds_then c.put_head.ensures c.put_clients.ensures.put in
+    let put = adds_then (adds_then clients c.put_rows.ensures) c.put_byte.ensures in
+    grind (arith, put.put, put.same)
