@@ -1,5 +1,5 @@
-// Text put into a lent page: fixed byte strings, decimal numbers, and the line of a refused read. `inner` has what asks
-// for room.
+// Text put into a lent page: decimal numbers, and the line of a refused read; byte strings are put by `Output::put`.
+// `inner` has what asks for room.
 #![tactic(auto)]
 
 pub mod inner; // inner.rt
