@@ -26,7 +26,7 @@
  *
  * The library is compiled for x86-64 alone. It has no data of its own, keeps nothing between calls and allocates
  * nothing, so any function may run at the same time in several threads and handlers. It asks for memcpy and memset. A
- * call takes some 1,000 bytes of stack at most, gwelathur_search 9,300, and 540 where it refuses. docs/C.md has the
+ * call takes some 1,100 bytes of stack at most, gwelathur_search 9,600, and 540 where it refuses. docs/C.md has the
  * numbers of each function, and the commands that measure them.
  */
 #ifndef GWELATHUR_H

@@ -8,22 +8,24 @@ use Prim.Native.Nat.{ℕ, zero, suc, ◌+◌, ◌-◌, ◌≤◌, ◌<◌}
 use native.Mathlib.Decide.{ℕ_discrete, dec_lt}
 use native.Mathlib.Omega.{arith}
 use lib.Dec.{ltb}
-use lib.ListN.{length, get_or, set}
+use lib.ListN.{length, get_or, set, replicate}
 use lib.Seq.{get_or-set_same, get_or-set_other}
 use borrow.Author.Tests.{lt-ltb, le-ltb}
+use Rattle.frame.specs.Frame.{next_of}
 use Rattle.frame.specs.Queue.{serve}
 use Rattle.std.specs.Prelude.{Ok, Err}
 use Rattle.records.specs.declared.refusal.Refusal.{Refusal}
 use Rattle.records.specs.First.{pick, number_of, Outcome, Fine, refuse}
 use Rattle.records.specs.Said.{Said, said_number}
+use Rattle.records.specs.Pieces.{onto, padded}
 use Rattle.plan.specs.declared.Plan.{Plan}
 use Rattle.plan.specs.Plan.{owner_of, is_client}
 use Rattle.plan.proofs.Laws.{client_is, client_not}
 use Rattle.arbiter.specs.declared.Arbiter.{Arbiter}
 use Rattle.arbiter.specs.declared.Served.{Served}
 use Rattle.arbiter.specs.declared.Stepped.{Stepped}
-use Rattle.arbiter.specs.Step.{served_by, less_one, joined, advanced, step_check, refused_step, stepped_by, step_of}
-use Rattle.arbiter.specs.Step.{said_by, step_said, served_said}
+use Rattle.arbiter.specs.Step.{served_by, less_one, turned_at, joined, served_now, advanced, step_check}
+use Rattle.arbiter.specs.Step.{refused_step, stepped_by, step_of, said_by, step_said, served_said}
 
 -- ---- the client served
 
@@ -125,6 +127,17 @@ less_is served i counts l = by (ℕ_discrete served (i + 1))
     by (no e) = rw (client_not (i + 1) served e) (less_other served i counts e ∙ omega arith)
 
 -- ---- the whole step
+
+-- the slot's work, and the position after it
+pub advances : (plan : Plan) (arb : Arbiter) (xs left turned : List ℕ) (served next : ℕ)
+    → served ≡ served_now plan arb xs → left ≡ less_one served (joined plan arb xs)
+    → turned ≡ onto (turned_at plan arb xs) plan.n (replicate 8 0) → next ≡ next_of plan.f arb.position
+    → record {
+      served = record { client = served; turned = turned };
+      next = record { position = next; pending = left };
+    } ≡ advanced plan arb xs
+unfolding advanced padded
+advances plan arb xs left turned served next s l t p = rw (l, s, t, p)
 
 pub step_refused : (plan : Plan) (arb : Arbiter) (xs : List ℕ) {why : Refusal} {offset : ℕ}
     → step_check plan arb.position (length xs) ≡ refuse why offset → step_of plan arb xs ≡ refused_step arb

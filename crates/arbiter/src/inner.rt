@@ -47,8 +47,21 @@ pub fn check_step(plan: Plan, position: usize, arrived: usize) -> Result<(), Ref
     check_arrivals(plan.n, arrived)
 }
 
-// Each client's arrivals join its lent pending count up to 255, and those turned away are counted; other places are
-// kept.
+// What a client has pending in a slot, where this many arrive: they join up to 255.
+fn queue_of(pending: u8, arrived: u8) -> u8
+    ensures { result ≡ queue one_slot pending arrived }
+{
+    pending.saturating_add(arrived)
+}
+
+// How many of these arrivals are turned away.
+fn away_of(pending: u8, arrived: u8) -> u8
+    ensures { result ≡ one_slot.turns pending arrived }
+{
+    arrived.saturating_sub(MOST_PENDING - pending)
+}
+
+// Each client's arrivals join its lent pending count, and those turned away are counted; other places are kept.
 fn arrive(pending: &mut [u8; 8], arrivals: &[u8], turned: &mut [u8; 8])
     requires { length arrivals.now ≤ 8 }
     ensures pending_after { pending.new ≡ onto
@@ -59,8 +72,8 @@ fn arrive(pending: &mut [u8; 8], arrivals: &[u8], turned: &mut [u8; 8])
         (length arrivals.now) turned.old }
 {
     for (i, &arrived) in arrivals.iter().enumerate() {
-        turned[i] = arrived.saturating_sub(MOST_PENDING - pending[i]);
-        pending[i] = pending[i].saturating_add(arrived);
+        turned[i] = away_of(pending[i], arrived);
+        pending[i] = queue_of(pending[i], arrived);
     }
 }
 

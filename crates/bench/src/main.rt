@@ -8,8 +8,10 @@ mod ops; // ops.rt
 mod reply; // reply.rt
 
 use input::read_full;
+use reply::Reply;
 use std::io;
 use std::io::{Read, Write};
+use text::PAGE;
 
 // One case is read and its reply written; false where no whole case is left.
 fn answer_one<R: Read, W: Write>(from: &mut R, to: &mut W) -> io::Result<bool> {
@@ -17,7 +19,10 @@ fn answer_one<R: Read, W: Write>(from: &mut R, to: &mut W) -> io::Result<bool> {
     if read_full(from, &mut case)? < case::SIZE {
         return Ok(false);
     }
-    to.write_all(ops::reply_to(&case).bytes())?;
+    let mut page = [0; PAGE];
+    let mut reply = Reply::new(&mut page);
+    ops::put_reply(&mut reply, &case);
+    to.write_all(reply.bytes())?;
     Ok(true)
 }
 

@@ -145,16 +145,15 @@ fn put_line(reply: &mut Reply, case: &Case) {
     }
 }
 
-// The whole reply to a case. Ops 10 and 11: the texts of the two programs, with their own line ends.
-pub fn reply_to(case: &Case) -> Reply {
+// The whole reply to a case, into a reply with no words. Ops 10 and 11: the texts of the two programs, with their own
+// line ends.
+pub fn put_reply(reply: &mut Reply, case: &Case) {
     match case::op(case) {
-        10 => Reply::text(case::stream(case), listing::report),
-        11 => Reply::text(case::stream(case), listing::homing),
+        10 => reply.text(case::stream(case), listing::report),
+        11 => reply.text(case::stream(case), listing::homing),
         _ => {
-            let mut reply = Reply::new();
-            put_line(&mut reply, case);
+            put_line(reply, case);
             reply.end();
-            reply
         },
     }
 }

@@ -5,29 +5,24 @@ use records::refusal::Refusal;
 use text::PAGE;
 use text::inner::put_decimal;
 
-// A page, of which this much is filled.
+// A lent page, of which this much is filled.
 #[derive(Drop)]
-pub struct Reply {
-    page: [u8; PAGE],
+pub struct Reply<'a> {
+    page: &'a mut [u8; PAGE],
     size: usize,
 }
 
-impl Reply {
-    // A reply with no words.
-    pub fn new() -> Reply {
-        Reply {
-            page: [0; PAGE],
-            size: 0,
-        }
+impl<'a> Reply<'a> {
+    // A reply with no words yet, in this page.
+    pub fn new(page: &'a mut [u8; PAGE]) -> Reply<'a> {
+        Reply { page, size: 0 }
     }
 
-    // A reply that is a text with its own line ends, which is put into the page whole.
-    pub fn text<F: FnOnce(&[u8], &mut [u8; PAGE]) -> usize>(s: &[u8], put_text: F) -> Reply
+    // The whole reply is a text with its own line ends, which is put into the page as it stands.
+    pub fn text<F: FnOnce(&[u8], &mut [u8; PAGE]) -> usize>(&mut self, s: &[u8], put_text: F)
         requires { F.IsAlwaysCallable put_text }
     {
-        let mut page = [0; PAGE];
-        let size = put_text(s, &mut page);
-        Reply { page, size }
+        self.size = put_text(s, self.page);
     }
 
     // The bytes of the reply.
@@ -40,7 +35,7 @@ impl Reply {
         let at = self.size;
         if at.saturating_add(piece.len()) <= PAGE {
             let mut out = Output {
-                lent: &mut self.page,
+                lent: self.page,
                 at,
             };
             out.put(piece);
@@ -67,7 +62,7 @@ impl Reply {
         let at = self.size;
         if at <= PAGE - 20 {
             let mut out = Output {
-                lent: &mut self.page,
+                lent: self.page,
                 at,
             };
             put_decimal(&mut out, x);

@@ -75,25 +75,25 @@ read_then_gives check ks numbers gives low high s x = by (read_of s) refl
 
 -- what is said of a reading, where Is says what is said of a plan: there is one answer, its number is that of the first
 -- refusal, and it is a refusal where either is
-module _ {X A : Type 0} (Is : Plan → X → Said A → Type 0) (check : Plan → X → Outcome)
-    (once : (plan : Plan) (x : X) (a b : Said A) → Is plan x a → Is plan x b → a ≡ b)
-    (numbered : (plan : Plan) (x : X) (a : Said A) → Is plan x a → said_number a ≡ number_of (check plan x))
-    (stops : (plan : Plan) (x : X) (a : Said A) (why : Refusal) (offset : ℕ) → Is plan x a
-    → check plan x ≡ refuse why offset → a ≡ result.Err why) (x : X) where
-  heard_once : (r : Result Plan (At Refusal)) (a b : Said A) → OfRead (λ plan. Is plan x) r a
+module _ {X A : Type 0} (Is : Plan → X → Said A → Type 0) (check : Plan → X → Outcome) (x : X) where
+  heard_once : ((plan : Plan) (x : X) (a b : Said A) → Is plan x a → Is plan x b → a ≡ b)
+      → (r : Result Plan (At Refusal)) (a b : Said A) → OfRead (λ plan. Is plan x) r a
       → OfRead (λ plan. Is plan x) r b → a ≡ b
-  heard_once (result.Ok plan) a b h h' = once plan x a b h h'
-  heard_once (result.Err refused) a b h h' = h ∙ sym h'
+  heard_once once (result.Ok plan) a b h h' = once plan x a b h h'
+  heard_once once (result.Err refused) a b h h' = h ∙ sym h'
 
-  heard_number : (r : Result Plan (At Refusal)) (a : Said A) → OfRead (λ plan. Is plan x) r a
+  heard_number : ((plan : Plan) (x : X) (a : Said A) → Is plan x a → said_number a ≡ number_of (check plan x))
+      → (r : Result Plan (At Refusal)) (a : Said A) → OfRead (λ plan. Is plan x) r a
       → said_number a ≡ number_of (then_check check r x)
-  heard_number (result.Ok plan) a h = numbered plan x a h
-  heard_number (result.Err refused) a h = ap said_number h
+  heard_number numbered (result.Ok plan) a h = numbered plan x a h
+  heard_number numbered (result.Err refused) a h = ap said_number h
 
-  heard_refused : (r : Result Plan (At Refusal)) (a : Said A) (why : Refusal) (offset : ℕ)
+  heard_refused : ((plan : Plan) (x : X) (a : Said A) (why : Refusal) (offset : ℕ) → Is plan x a
+      → check plan x ≡ refuse why offset → a ≡ result.Err why)
+      → (r : Result Plan (At Refusal)) (a : Said A) (why : Refusal) (offset : ℕ)
       → OfRead (λ plan. Is plan x) r a → then_check check r x ≡ refuse why offset → a ≡ result.Err why
-  heard_refused (result.Ok plan) a why offset h e = stops plan x a why offset h e
-  heard_refused (result.Err refused) a why offset h e =
+  heard_refused stops (result.Ok plan) a why offset h e = stops plan x a why offset h e
+  heard_refused stops (result.Err refused) a why offset h e =
       h ∙ ap result.Err (refused_why (result.Err refused) refused.why why offset refl e)
 
 -- ---- questions
@@ -106,13 +106,13 @@ tight_tells : {X A : Type 0} (Is : Plan → X → Said A → Type 0) (check : Pl
 tight_tells Is check ks numbers zero values tight low high nonzero =
     record {
       once = λ s x r r' h h'.
-          let e = heard_once Is check tight.once tight.number tight.refused x (read_of s) _ _ h.is h'.is in
+          let e = heard_once Is check x tight.once (read_of s) _ _ h.is h'.is in
           both (h.returned ∙ ap said_number e ∙ sym h'.returned)
           (h.stored ∙ ap (λ a. values (said_or zero a)) e ∙ sym h'.stored);
       number = λ s x r h.
-          h.returned ∙ heard_number Is check tight.once tight.number tight.refused x (read_of s) h.answer h.is;
+          h.returned ∙ heard_number Is check x tight.number (read_of s) h.answer h.is;
       refused = λ s x r why offset h e.
-          let stops = heard_refused Is check tight.once tight.number tight.refused x (read_of s) h.answer in
+          let stops = heard_refused Is check x tight.refused (read_of s) h.answer in
           let a = stops why offset h.is e in
           both (h.returned ∙ ap said_number a) (h.stored ∙ ap (λ a. values (said_or zero a)) a);
       numbers = read_then_gives check ks numbers tight.numbers low high;
@@ -201,24 +201,21 @@ c_write_tied =
 
 search_once : (out : List ℕ) (r : Result Plan (At Refusal)) (a b : Said (Option (List ℕ))) → OfRead IsSearchedFor r a
     → OfRead IsSearchedFor r b → a ≡ b
-search_once =
-    heard_once (λ plan out. IsSearchedFor plan) (λ plan out. search_check (emptied plan))
-    (λ plan out. search_tight.once (emptied plan) tt) (λ plan out. search_tight.number (emptied plan) tt)
-    (λ plan out. search_tight.refused (emptied plan) tt)
+search_once out =
+    heard_once (λ plan out. IsSearchedFor plan) (λ plan out. search_check (emptied plan)) out
+    (λ plan out. search_tight.once (emptied plan) tt)
 
 search_number : (out : List ℕ) (r : Result Plan (At Refusal)) (a : Said (Option (List ℕ))) → OfRead IsSearchedFor r a
     → said_number a ≡ number_of (then_check (λ plan (out : List ℕ). search_check (emptied plan)) r out)
-search_number =
-    heard_number (λ plan out. IsSearchedFor plan) (λ plan out. search_check (emptied plan))
-    (λ plan out. search_tight.once (emptied plan) tt) (λ plan out. search_tight.number (emptied plan) tt)
-    (λ plan out. search_tight.refused (emptied plan) tt)
+search_number out =
+    heard_number (λ plan out. IsSearchedFor plan) (λ plan out. search_check (emptied plan)) out
+    (λ plan out. search_tight.number (emptied plan) tt)
 
 search_refused : (out : List ℕ) (r : Result Plan (At Refusal)) (a : Said (Option (List ℕ))) (why : Refusal) (offset : ℕ)
     → OfRead IsSearchedFor r a
     → then_check (λ plan (out : List ℕ). search_check (emptied plan)) r out ≡ refuse why offset → a ≡ result.Err why
-search_refused =
-    heard_refused (λ plan out. IsSearchedFor plan) (λ plan out. search_check (emptied plan))
-    (λ plan out. search_tight.once (emptied plan) tt) (λ plan out. search_tight.number (emptied plan) tt)
+search_refused out =
+    heard_refused (λ plan out. IsSearchedFor plan) (λ plan out. search_check (emptied plan)) out
     (λ plan out. search_tight.refused (emptied plan) tt)
 
 pub c_search_tight : Tight c_search_entry
@@ -272,23 +269,20 @@ its_check plan x = step_check plan (record_in x.0).position (length x.1)
 
 step_once : (x : List ℕ × List ℕ) (r : Result Plan (At Refusal)) (a b : Said Stepped)
     → OfRead (IsStep (record_in x.0) x.1) r a → OfRead (IsStep (record_in x.0) x.1) r b → a ≡ b
-step_once =
-    heard_once (λ plan x. IsStep (record_in x.0) x.1 plan) its_check
-    (λ plan x. step_tight.once plan (record_in x.0, x.1)) (λ plan x. step_tight.number plan (record_in x.0, x.1))
-    (λ plan x. step_tight.refused plan (record_in x.0, x.1))
+step_once x =
+    heard_once (λ plan x. IsStep (record_in x.0) x.1 plan) its_check x
+    (λ plan x. step_tight.once plan (record_in x.0, x.1))
 
 step_number : (x : List ℕ × List ℕ) (r : Result Plan (At Refusal)) (a : Said Stepped)
     → OfRead (IsStep (record_in x.0) x.1) r a → said_number a ≡ number_of (then_check its_check r x)
-step_number =
-    heard_number (λ plan x. IsStep (record_in x.0) x.1 plan) its_check
-    (λ plan x. step_tight.once plan (record_in x.0, x.1)) (λ plan x. step_tight.number plan (record_in x.0, x.1))
-    (λ plan x. step_tight.refused plan (record_in x.0, x.1))
+step_number x =
+    heard_number (λ plan x. IsStep (record_in x.0) x.1 plan) its_check x
+    (λ plan x. step_tight.number plan (record_in x.0, x.1))
 
 step_refused : (x : List ℕ × List ℕ) (r : Result Plan (At Refusal)) (a : Said Stepped) (why : Refusal) (offset : ℕ)
     → OfRead (IsStep (record_in x.0) x.1) r a → then_check its_check r x ≡ refuse why offset → a ≡ result.Err why
-step_refused =
-    heard_refused (λ plan x. IsStep (record_in x.0) x.1 plan) its_check
-    (λ plan x. step_tight.once plan (record_in x.0, x.1)) (λ plan x. step_tight.number plan (record_in x.0, x.1))
+step_refused x =
+    heard_refused (λ plan x. IsStep (record_in x.0) x.1 plan) its_check x
     (λ plan x. step_tight.refused plan (record_in x.0, x.1))
 
 pub c_step_tight : Tight c_step_entry

@@ -9,11 +9,14 @@ use Rattle.std.specs.Prelude.{Result, Option, Some, None}
 use Rattle.std.specs.declared.result.Result.TheVariants as result
 use Rattle.records.specs.declared.refusal.At.{At}
 use Rattle.records.specs.declared.refusal.Refusal.{Refusal}
+use Rattle.records.specs.Refusal.{number}
 use Rattle.records.specs.First.{Fine}
+use Rattle.records.specs.Put.{Put}
 use Rattle.records.specs.Said.{Said, Answers, said_or}
 use Rattle.records.proofs.Parts.{run, part_run}
 use Rattle.plan.specs.declared.Plan.{Plan}
 use Rattle.plan.specs.Plan.{owner_of, with_table}
+use Rattle.stream.specs.Read.{read_of}
 use Rattle.stream.specs.Write.{stream_of, longest}
 use Rattle.stream.proofs.Lengths.{length_stream}
 use Rattle.search.specs.Search.{search_check}
@@ -24,7 +27,7 @@ use Rattle.arbiter.specs.Step.{joined, served_now, advanced, step_check, refused
 use Rattle.arbiter.proofs.Questions.{step_fine, owner_small}
 use Rattle.arbiter.proofs.Slots.{served_at_most, either, said_given}
 use Rattle.arbiter.proofs.Runs.{passes_again}
-use Rattle.capi.specs.Calls.{OfRead, emptied, IsSearchedFor, found_stream, IsStep, record_in}
+use Rattle.capi.specs.Calls.{OfRead, emptied, IsSearchedFor, found_stream, ToldSearch, IsStep, record_in}
 
 -- ---- the stream of a plan found
 
@@ -54,6 +57,18 @@ pub refused_searched : (r : Result Plan (At Refusal)) (why : Refusal)
     → OfRead IsSearchedFor r (result.Err why)
 refused_searched (result.Ok plan) why h = h
 refused_searched (result.Err refused) why h = let same : why ≡ refused.why = cc in ap result.Err same
+
+-- and what is told of it
+pub told_refused : {s out now : List ℕ} {r size : ℕ} (why : Refusal)
+    → OfRead (λ plan. Answers (search_check (emptied plan)) (λ (u : Unit {0}). Unit {0})) (read_of s) (result.Err why)
+    → r ≡ number why → Put out 0 [] now size → ToldSearch s out r size now
+told_refused {s = s} why h n put =
+    record {
+      answer = result.Err why;
+      is = refused_searched (read_of s) why h;
+      returned = n;
+      put = rw (found_none (read_of s)) put;
+    }
 
 -- ---- nine bytes
 

@@ -10,9 +10,9 @@ use lib.ListN.{length, take, length-append}
 use Rattle.std.specs.Prelude.{Option, Some, None}
 use Rattle.explore.specs.declared.Best.{Best}
 use Rattle.explore.specs.declared.Front.{Front}
-use Rattle.explore.specs.Best.{Table, owned}
+use Rattle.explore.specs.Best.{Table, owned, BestOf}
 use Rattle.explore.specs.Needs.{need_after, NoneInNeed, Sound}
-use Rattle.explore.specs.Seen.{owners_of, IsFront, Before, UpTo, Kept, Holds, Explored}
+use Rattle.explore.specs.Seen.{owners_of, IsFront, Before, UpTo, Kept, NoneYet, Holds, Explored}
 use Rattle.explore.proofs.Needs.{none_fits, need_least}
 use Rattle.explore.proofs.Order.{before_or_begins, before_up_to, before_least, begins_least, up_to_itself, SameTables}
 use Rattle.explore.proofs.Order.{before_first, up_to_next, before_last}
@@ -183,3 +183,28 @@ module _ (trees : List ℕ) (g n : ℕ) (front : Front) (is : IsFront n front) (
       let all = rw last at (partly_more best to owner q (omega arith) e so more) in
       let over = before_last g n (owners_of front) (omega (arith, is.table.long)) in
       record { on = λ sound s. holds_same (NoneInNeed trees n) g n _ _ over to (all.on sound s) }
+
+-- ---- the whole walk
+
+-- the owners of a best
+abbrev pub table_in : Option Best → Option (List ℕ)
+table_in (Some best) = Some best.owners
+table_in None = None
+
+none_begins : (P : List ℕ → Type 0) (g n : ℕ) → NoneYet P g n (Before [])
+none_begins P g n = record { none = λ u table q good. q }
+
+-- of all fillings the best, where the walk goes through all that begin with no place
+pub explored_all : (trees : List ℕ) (g n : ℕ) (to : Option Best) → Sound trees g n → Explored trees g n [] None to
+    → BestOf (NoneInNeed trees n) g n (table_in to)
+explored_all trees g n (Some best) sound walk =
+    let kept = walk.on sound (none_begins (NoneInNeed trees n) g n) in
+    record {
+      table = kept.table;
+      good = kept.good;
+      fewest = λ u table good. omega (arith, kept.count, kept.fewest u table tt good);
+      least = λ u table good e. kept.least u table tt good (e ∙ sym kept.count);
+    }
+explored_all trees g n None sound walk =
+    let kept = walk.on sound (none_begins (NoneInNeed trees n) g n) in
+    λ u table good. kept.none u table tt good

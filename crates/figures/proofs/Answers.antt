@@ -5,12 +5,14 @@ use Prim.Native.Nat.{ℕ, ◌≤◌, ◌<◌}
 use native.Mathlib.Omega.{arith}
 use Rattle.frame.specs.Frame.{Frame, IsScaled, IsWait}
 use Rattle.frame.proofs.Limits.{scaled_small}
-use Rattle.std.specs.Prelude.{Ok}
+use Rattle.std.specs.Prelude.{Ok, Err}
+use Rattle.records.specs.declared.refusal.Refusal.{Refusal}
 use Rattle.records.specs.First.{Fine}
+use Rattle.records.proofs.Checks.{refused_first}
 use Rattle.plan.specs.declared.Plan.{Plan}
 use Rattle.plan.specs.Plan.{own_of}
 use Rattle.figures.specs.declared.Figure.{Figure}
-use Rattle.figures.specs.Check.{waiting_check, wait_check}
+use Rattle.figures.specs.Check.{figure_check, waiting_check, wait_check}
 use Rattle.figures.specs.Figures.{IsFigures, IsWaitFor}
 use Rattle.figures.proofs.Laws.{frame_of, count_small}
 use Rattle.figures.proofs.Questions.{figure_fine}
@@ -41,3 +43,8 @@ module _ (plan : Plan) (c : ℕ) (figure : Figure) (is : IsFigures plan c (Ok fi
   unfolding wait_check
   waits_given k slots e h =
       (rw is.0 e, record { L = figure.scaled; scaled = is.1.scaled; least = rw is.1.slots at h })
+
+-- a refused figure is a refused wait
+pub waits_stopped : (plan : Plan) (c k : ℕ) (why : Refusal) → IsFigures plan c (Err why) → IsWaitFor plan c k (Err why)
+unfolding wait_check
+waits_stopped plan c k why = refused_first (figure_check plan c) (waiting_check k) why

@@ -4,7 +4,7 @@
 use mathlib.Core.Path.{◌≡◌, refl, sym, ap, ◌∙◌}
 use mathlib.Core.List.{List}
 use Prim.Native.Nat.{ℕ, ◌+◌, ◌-◌, ◌*◌, ◌%◌, ◌≤◌, ◌<◌}
-use native.Mathlib.Nat.{zero-add, add-zero, add_assoc, mod-eq_of_lt}
+use native.Mathlib.Nat.{zero-add, add-zero, add_assoc, mod-eq_of_lt, mod-lt, mul-le-mul}
 use native.Mathlib.Omega.{arith}
 use lib.ListN.{get_or}
 use Rattle.frame.specs.Frame.{next_of, within, slots_of, Frame, IsScaled}
@@ -27,6 +27,9 @@ frame_of plan c f> =
 
 -- ---- small numbers
 
+pub product_small : (a b : ℕ) → a ≤ 64 → b ≤ 64 → a * b ≤ 4096
+product_small a b l h = mul-le-mul l h
+
 pub count_small : (owners : List ℕ) (f c s j : ℕ) → j ≤ 64 → within (own_in owners f c) s j ≤ 64
 count_small owners f c s j l = omega (arith, within_most (own_in owners f c) (own_most owners f c) s j)
 
@@ -34,6 +37,10 @@ pub slots_small : (plan : Plan) (c m : ℕ) → m ≡ slots_of (own_of plan c) p
 slots_small plan c m e l = omega (arith, count_small plan.owners plan.f c 0 plan.f l)
 
 -- ---- one slot on
+
+-- the place is one of the frame
+pub in_frame : (f s j at : ℕ) → s < f → at ≡ (s + j) % f → at < f
+in_frame f s j at l e = let f> : 0 < f = omega arith in omega (arith, mod-lt (s + j) f>)
 
 pub count_on : (owners : List ℕ) (f c s j w at o : ℕ) → w ≡ within (own_in owners f c) s j → at ≡ (s + j) % f
     → o ≡ is_client c (get_or owners at 0) → w + o ≡ within (own_in owners f c) s (j + 1)

@@ -2,11 +2,11 @@
 -- client owns a slot.
 -- Assumes nothing.
 use mathlib.Core.Path.{◌≡◌}
-use Prim.Native.Nat.{ℕ, ◌≤◌}
-use borrow.Author.Tests.{le-leb, leb-true}
+use Prim.Native.Nat.{ℕ, ◌≤◌, ◌<◌}
+use borrow.Author.Tests.{le-leb, lt-leb, leb-true}
 use Rattle.frame.specs.Frame.{slots_of}
 use Rattle.records.specs.declared.refusal.Refusal.TheVariants as refusal
-use Rattle.records.specs.First.{Fine}
+use Rattle.records.specs.First.{Fine, refuse}
 use Rattle.records.proofs.Checks.{both_fine, unless_fine, range_fine, range_pass}
 use Rattle.plan.specs.declared.Plan.{Plan}
 use Rattle.plan.specs.Plan.{own_of}
@@ -15,6 +15,10 @@ use Rattle.plan.proofs.Laws.{Checked, asked_fine, asked_pass}
 use Rattle.figures.specs.Check.{owns_check, figure_check, most_waiting, wait_check}
 
 -- ---- figures
+
+pub owns_none : (plan : Plan) (c : ℕ) → slots_of (own_of plan c) plan.f < 1
+    → owns_check plan c ≡ refuse refusal.NoSlot 0
+owns_none plan c l = simp (lt-leb 1 (slots_of (own_of plan c) plan.f) l)
 
 pub owns_some : (plan : Plan) (c : ℕ) → 1 ≤ slots_of (own_of plan c) plan.f → owns_check plan c ≡ Fine
 owns_some plan c l = simp (le-leb 1 (slots_of (own_of plan c) plan.f) l)

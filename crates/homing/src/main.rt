@@ -5,5 +5,5 @@
 use std::io;
 
 fn main(rt: HostRuntime) -> io::Result<()> {
-    input::answer(&mut rt.stdin(), &mut rt.stdout(), listing::homing)
+    input::inner::answer(&mut rt.stdin(), &mut rt.stdout(), listing::homing)
 }

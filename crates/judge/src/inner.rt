@@ -41,41 +41,44 @@ pub fn acceptance() -> Judgement
     }
 }
 
-// Judges the clients from + 1 to `to`, and stops at the first failing stretch. Its slots w are counted along.
+// Judges the clients from + 1 to `to`, and is left by its label at the first failing stretch. Its slots w are counted
+// along.
 pub fn first_failure(plan: Plan, from: usize, to: usize) -> Judgement
     requires { (1 ≤ plan.f) × (plan.f ≤ 64) × (to ≤ 8) }
     ensures { IsJudgement plan from to result }
 {
-    'clients: for i in from..to {
-        let client = i + 1;
-        let required = plan.clients[i];
-        let m = slots(plan, client);
-        if !enough(required, plan.f, m) {
-            return Judgement {
-                client,
-                verdict: Verdict::Rate,
-                start: 0,
-                length: 0,
-            };
-        }
-        'starts: for start in 0..plan.f {
-            let mut w = 0;
-            let mut at = start;
-            'lengths: for length in 0..plan.f {
-                if !covers(required, plan.f, m, length, w) {
-                    return Judgement {
-                        client,
-                        verdict: Verdict::Late,
-                        start,
-                        length,
-                    };
+    'judging: {
+        'clients: for i in from..to {
+            let client = i + 1;
+            let required = plan.clients[i];
+            let m = slots(plan, client);
+            if !enough(required, plan.f, m) {
+                break 'judging Judgement {
+                    client,
+                    verdict: Verdict::Rate,
+                    start: 0,
+                    length: 0,
+                };
+            }
+            'starts: for start in 0..plan.f {
+                let mut w = 0;
+                let mut at = start;
+                'lengths: for length in 0..plan.f {
+                    if !covers(required, plan.f, m, length, w) {
+                        break 'judging Judgement {
+                            client,
+                            verdict: Verdict::Late,
+                            start,
+                            length,
+                        };
+                    }
+                    w += owned_by(plan.owners[at], client);
+                    at = next(plan.f, at);
                 }
-                w += owned_by(plan.owners[at], client);
-                at = next(plan.f, at);
             }
         }
+        acceptance()
     }
-    acceptance()
 }
 
 // Where judging clients group by group stops: in the first group, else in the second.

@@ -17,17 +17,19 @@ use Rattle.records.proofs.Puts.{then}
 use Rattle.plan.specs.declared.Plan.{Plan}
 use Rattle.plan.specs.Check.{plan_check, asked_check}
 use Rattle.plan.proofs.Laws.{plan_fine, asked_pass}
-use Rattle.text.specs.Text.{refusal_line, Lines, Puts, AddsOne}
+use Rattle.text.specs.Text.{bytes, refusal_line, Lines, Puts, AddsOne}
 use Rattle.text.proofs.Laws.{adds_no_line, adds_line}
 use Rattle.stream.specs.Read.{read_of}
 use Rattle.stream.proofs.Answers.{reading_checked}
 use Rattle.figures.specs.Figures.{IsWaitFor}
+use Rattle.judge.specs.declared.Verdict.{Verdict}
+use Rattle.judge.specs.declared.Verdict.TheVariants.{Ok, Rate, Late}
 use Rattle.judge.specs.declared.Judgement.{Judgement}
 use Rattle.judge.specs.Judge.{IsJudgement, IsVerdictOf}
 use Rattle.judge.proofs.Laws.{judged_none, verdict_by_lem}
 use Rattle.listing.specs.declared.Line.{Line}
-use Rattle.listing.specs.Listing.{header, line_text, closing_text, homing_waiting, homing_line, IsLine, IsReportLine}
-use Rattle.listing.specs.Listing.{IsClosing, IsReportOf, IsHomingLine, OrRefusal}
+use Rattle.listing.specs.Listing.{header, line_text, refused_text, closing_text, homing_waiting, homing_line}
+use Rattle.listing.specs.Listing.{IsLine, IsReportLine, IsClosing, IsReportOf, IsHomingLine, OrRefusal}
 
 -- ---- a client of a plan that is checked
 
@@ -42,6 +44,18 @@ judged_verdict plan i found fine i< is =
     let e : i + 1 - 1 ≡ i = omega arith in
     let verdict = verdict_by_lem plan i (i + 1) refl found.verdict found.client found.start found.length is in
     (client_asked plan i fine i<, rw e verdict)
+
+-- ---- the last line
+
+pub closes_ok : (c : ℕ) (v : Verdict) → v ≡ Ok → bytes "accepted\n" ≡ closing_text c v
+unfolding closing_text
+closes_ok c v e = rw e
+
+pub closes_refused : (c : ℕ) (v : Verdict) → (v ≡ Ok → ⊥) → refused_text c v ≡ closing_text c v
+unfolding closing_text
+closes_refused c Ok h = absurd (h refl)
+closes_refused c Rate h = refl
+closes_refused c Late h = refl
 
 -- ---- what is put of a plan
 

@@ -51,7 +51,9 @@ pub fn check_clients(plan: Plan) -> Result<(), Refused>
     requires { plan.n ≤ 8 }
     ensures { result ≡ first_of (client_check_of plan) plan.n }
 {
-    for &client in &plan.clients[..plan.n] {
+    // by name, as the table below: else all of the plan is stored first, and a short one takes a quarter more to check
+    let clients = plan.clients;
+    for &client in &clients[..plan.n] {
         check_client(client, 0)?;
     }
     Ok(())
@@ -62,7 +64,8 @@ pub fn check_owners(plan: Plan) -> Result<(), Refused>
     requires { plan.f ≤ 64 }
     ensures { result ≡ owners_check plan }
 {
-    for &owner in &plan.owners[..plan.f] {
+    let owners = plan.owners;
+    for &owner in &owners[..plan.f] {
         check_owner(owner, plan.n, 0)?;
     }
     Ok(())

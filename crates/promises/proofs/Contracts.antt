@@ -17,6 +17,7 @@ use Rattle.records.proofs.check_range.Reads as records_check_range
 use Rattle.records.proofs.wide.Reads as records_wide
 use Rattle.records.proofs.kind_at.Reads as records_kind_at
 use Rattle.records.proofs.check_record.Reads as records_check_record
+use Rattle.records.proofs.check_record_by.Reads as records_check_record_by
 use Rattle.records.proofs.check_over.Reads as records_check_over
 use Rattle.plan.proofs.no_client.Reads as plan_no_client
 use Rattle.plan.proofs.no_plan.Reads as plan_no_plan
@@ -64,9 +65,10 @@ contract_of (Name.records::check_range E) =
     (records_check_range.Post E.type E.laws E.copied E.cloned E.methods)
 contract_of Name.records::wide = contract records_wide.Pre records_wide.Post
 contract_of Name.records::kind_at = contract records_kind_at.Pre records_kind_at.Post
-contract_of (Name.records::check_record E) =
-    contract (records_check_record.Pre E.type E.laws E.copied E.cloned E.methods)
-    (records_check_record.Post E.type E.laws E.copied E.cloned E.methods)
+contract_of Name.records::check_record = contract records_check_record.Pre records_check_record.Post
+contract_of (Name.records::check_record_by E) =
+    contract (records_check_record_by.Pre E.type E.laws E.copied E.cloned E.methods)
+    (records_check_record_by.Post E.type E.laws E.copied E.cloned E.methods)
 contract_of Name.records::check_over = contract records_check_over.Pre records_check_over.Post
 contract_of Name.plan::no_client = contract plan_no_client.Pre plan_no_client.Post
 contract_of Name.plan::no_plan = contract plan_no_plan.Pre plan_no_plan.Post
@@ -109,7 +111,8 @@ tied (Name.records::or_else E) = records.or_else_tied E
 tied (Name.records::check_range E) = records.range_tied E
 tied Name.records::wide = records.wide_tied
 tied Name.records::kind_at = records.kind_tied
-tied (Name.records::check_record E) = records.record_tied E
+tied Name.records::check_record = records.record_tied
+tied (Name.records::check_record_by E) = records.record_by_tied E
 tied Name.records::check_over = records.over_tied
 tied Name.plan::no_client = plan.no_client_tied
 tied Name.plan::no_plan = plan.no_plan_tied

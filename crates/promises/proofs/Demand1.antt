@@ -16,7 +16,7 @@ use Rattle.records.specs.declared.refusal.At.{At}
 use Rattle.records.specs.declared.refusal.Refusal.{Refusal}
 use Rattle.records.specs.First.{Outcome, Fine}
 use Rattle.records.specs.Said.{Said}
-use Rattle.records.specs.Entry.{Tight, ValueOf, Shown, Tied}
+use Rattle.records.specs.Entry.{Tight, Plain, ValueOf, Shown, Tied}
 use Rattle.records.specs.Put.{Put}
 use Rattle.records.proofs.Said.{answers_given}
 use Rattle.records.proofs.Entry as entries
@@ -67,7 +67,8 @@ tight (Name.records::or_else E) = records.or_else_tight (ValueOf E)
 tight (Name.records::check_range E) = records.range_tight (ValueOf E)
 tight Name.records::wide = records.wide_tight
 tight Name.records::kind_at = records.kind_tight
-tight (Name.records::check_record E) = records.record_tight (ValueOf E)
+tight Name.records::check_record = records.record_tight
+tight (Name.records::check_record_by E) = records.record_by_tight (ValueOf E)
 tight Name.records::check_over = records.over_tight
 tight Name.plan::no_client = plan.no_client_tight
 tight Name.plan::no_plan = plan.no_plan_tight
@@ -106,6 +107,11 @@ tight Name.capi::gwelathur_homing = listing.homing_tight
 
 pub defined : (name : Name) → Tight (entry name) × Shown (entry name) × Tied (entry name) (contract_of name)
 defined name = (tight name, shown name, tied name)
+
+-- a generic one, too, as the checks here call it: by document 01's refusals, which are such a type (`refusals_are`)
+pub defined_refusals : (name : Plain → Name) → Tight (entry (name records.refusals))
+    × Shown (entry (name records.refusals)) × Tied (entry (name records.refusals)) (contract_of (name records.refusals))
+defined_refusals name = defined (name records.refusals)
 
 -- so a reply has number 0 exactly where the check passes
 pub exactly : (name : Name) (u : (entry name).Subject) (x : (entry name).More) (r : (entry name).Reply)

@@ -8,7 +8,7 @@ use Rattle.frame.specs.Frame.{within}
 use Rattle.records.specs.First.{range_check, first_of}
 use Rattle.records.specs.Entry.{Shown}
 use Rattle.records.specs.Pieces.{many, firsts, onto, padded}
-use Rattle.records.specs.Record.{record_check, over_check}
+use Rattle.records.specs.Record.{record_check_by, over_check}
 use Rattle.plan.specs.declared.Plan.{Plan}
 use Rattle.plan.specs.Plan.{no_client, own_in}
 use Rattle.plan.specs.Check.{client_check, owner_check, client_check_of, requirements_check, owner_check_of}
@@ -100,7 +100,7 @@ step_inputs =
 -- ---- the table
 
 pub shown : (name : Name) → Shown (entry name)
-unfolding within many firsts onto padded own_in range_check first_of record_check over_check client_check owner_check
+unfolding within many firsts onto padded own_in range_check first_of record_check_by over_check client_check owner_check
     client_check_of requirements_check owner_check_of owners_check plan_check asked_check kind_check next_place place
     due_check head_record_check client_at number_check client_record_check client_due_check slot_check slot_due_check
     row_record_check row_due_check end_record_check rest_check read_check client_in owner_in plan_of read_of copy_check
@@ -110,7 +110,8 @@ shown (Name.records::or_else E) = ([], refl)
 shown (Name.records::check_range E) = ([], refl)
 shown Name.records::wide = ([], refl)
 shown Name.records::kind_at = ([], refl)
-shown (Name.records::check_record E) = ([], refl)
+shown Name.records::check_record = ([], refl)
+shown (Name.records::check_record_by E) = ([], refl)
 shown Name.records::check_over = (((1 ∷ []), 0) ∷ [], refl)
 shown Name.plan::no_client = ([], refl)
 shown Name.plan::no_plan = ([], refl)

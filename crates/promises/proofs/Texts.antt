@@ -10,7 +10,7 @@ use Rattle.frame.specs.Frame.{within}
 use Rattle.frame.specs.Largest.{largest, lack, lack_from, scaled_of, wait_of}
 use Rattle.records.specs.First.{range_check, first_of, Fine}
 use Rattle.records.specs.Pieces.{firsts, onto, padded}
-use Rattle.records.specs.Record.{record_check, over_check}
+use Rattle.records.specs.Record.{record_check_by, over_check}
 use Rattle.plan.specs.Plan.{client_of, own_in, own_of, default_waiting}
 use Rattle.plan.specs.Check.{client_check, owner_check, client_check_of, requirements_check, owner_check_of}
 use Rattle.plan.specs.Check.{owners_check, plan_check}
@@ -40,7 +40,7 @@ use Rattle.promises.proofs.Bench.{only_answer}
 -- ---- the plan
 
 report_read : read_of report_stream ≡ result.Ok report_plan
-unfolding report_stream read_of read_check head_record_check rest_check end_record_check due_check record_check
+unfolding report_stream read_of read_check head_record_check rest_check end_record_check due_check record_check_by
     over_check kind_check first_of client_due_check client_record_check number_check client_check client_at
     row_due_check row_record_check slot_due_check slot_check owner_check range_check next_place place plan_of client_in
     owner_in firsts onto padded

@@ -17,7 +17,8 @@ pub data Name : Type 2 where
   records::check_range : Plain → Name
   records::wide : Name
   records::kind_at : Name
-  records::check_record : Plain → Name
+  records::check_record : Name
+  records::check_record_by : Plain → Name
   records::check_over : Name
   plan::no_client : Name
   plan::no_plan : Name
@@ -60,7 +61,8 @@ entry (Name.records::or_else E) = records.or_else_entry (ValueOf E)
 entry (Name.records::check_range E) = records.range_entry (ValueOf E)
 entry Name.records::wide = records.wide_entry
 entry Name.records::kind_at = records.kind_entry
-entry (Name.records::check_record E) = records.record_entry (ValueOf E)
+entry Name.records::check_record = records.record_entry
+entry (Name.records::check_record_by E) = records.record_by_entry (ValueOf E)
 entry Name.records::check_over = records.over_entry
 entry Name.plan::no_client = plan.no_client_entry
 entry Name.plan::no_plan = plan.no_plan_entry

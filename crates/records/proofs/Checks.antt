@@ -17,7 +17,7 @@ use Rattle.records.specs.declared.refusal.At.{At}
 use Rattle.records.specs.Refusal.{number}
 use Rattle.records.specs.First.{Checked, Outcome, Fine, refuse, pick, between, unless, range_check, or_else, first_of}
 use Rattle.records.specs.First.{number_of, RefusedBy}
-use Rattle.records.specs.Record.{placed, record_check, over_check}
+use Rattle.records.specs.Record.{placed, record_check_by, over_check}
 
 -- what the tests of a branch say of `ltb`, `leb` and `eqb`
 pub ruleset tests = (lt-ltb, le-ltb, le-leb, lt-leb, eq-eqb, ne_eqb)
@@ -93,6 +93,11 @@ pub refused_fine : {A : Type 0} (o : Outcome) (why : Refusal) → RefusedBy o wh
 refused_fine (Ok u) why h e = absurd h
 refused_fine (Err refused) why h e = not_fine e
 
+-- the first check's refusal is that of the two
+pub refused_first : (x y : Outcome) (why : Refusal) → RefusedBy x why → RefusedBy (or_else x y) why
+refused_first (Ok u) y why h = absurd h
+refused_first (Err refused) y why h = h
+
 abbrev reason_or : Refusal → Outcome → Refusal
 reason_or other (Ok u) = other
 reason_or other (Err refused) = refused.why
@@ -161,8 +166,8 @@ placed_fine (Ok u) at h = refl
 placed_fine (Err why) at h = not_fine h
 
 pub record_fine : {E : Type 0} (s : List ℕ) (at : ℕ) (due : Result (Unit {0}) E) (body : ℕ) (ended : E)
-    → record_check s at due body ended ≡ Fine → (due ≡ Fine) × (at + (1 + body) ≤ length s)
-unfolding record_check
+    → record_check_by s at due body ended ≡ Fine → (due ≡ Fine) × (at + (1 + body) ≤ length s)
+unfolding record_check_by
 record_fine s at due body ended h =
     let a = both_fine _ _ h in
     let b = both_fine _ _ a.1 in
@@ -171,8 +176,8 @@ record_fine s at due body ended h =
     (placed_fine due at b.0, omega arith)
 
 pub record_pass : {E : Type 0} (s : List ℕ) (at : ℕ) (due : Result (Unit {0}) E) (body : ℕ) (ended : E) → due ≡ Fine
-    → at + (1 + body) ≤ length s → record_check s at due body ended ≡ Fine
-unfolding record_check
+    → at + (1 + body) ≤ length s → record_check_by s at due body ended ≡ Fine
+unfolding record_check_by
 record_pass s at due body ended e h =
     rw e (simp (lt-ltb at (length s) (omega arith), lt-ltb body (length s - at) (omega arith)))
 
@@ -183,8 +188,8 @@ body_by (Err why) at x y z h = refl
 
 -- the body matters only where the kind is due
 pub record_body : {E : Type 0} (s : List ℕ) (at : ℕ) (due : Result (Unit {0}) E) (one other : ℕ) (ended : E)
-    → (due ≡ Fine → one ≡ other) → record_check s at due one ended ≡ record_check s at due other ended
-unfolding record_check
+    → (due ≡ Fine → one ≡ other) → record_check_by s at due one ended ≡ record_check_by s at due other ended
+unfolding record_check_by
 record_body {E} s at due one other ended h =
     let body : ℕ → Checked E = λ n. unless (ltb n (length s - at)) ended at in
     body_by due at (unless (ltb at (length s)) ended (length s)) (body one) (body other) (λ e. ap body (h e))

@@ -5,10 +5,11 @@ use mathlib.Core.Path.{◌≡◌, refl, sym, ap, subst, ◌∙◌}
 use mathlib.Core.Bool.{false}
 use mathlib.Core.List.{List}
 use Prim.Native.Nat.{ℕ}
+use Rattle.std.specs.Prelude.{Err}
 use Rattle.records.specs.declared.refusal.Refusal.{Refusal}
 use Rattle.records.specs.First.{Outcome, Fine, refuse, number_of, offset_of, among, Gives}
 use Rattle.records.specs.Said.{Said, Answers}
-use Rattle.records.specs.Entry.{Entry, Tight, Contract, Tied, says, finds, always}
+use Rattle.records.specs.Entry.{Entry, Tight, Contract, Tied, says, says_by, finds, always}
 use Rattle.records.proofs.Checks.{not_fine}
 use Rattle.records.proofs.Refusals.{gives_fine}
 use Rattle.records.proofs.Said.{answers_once, answers_number, answers_refused}
@@ -22,7 +23,27 @@ pub offset_none : (o : Outcome) {why : Refusal} {offset : ℕ} → offset_of o �
     → o ≡ refuse why 0
 offset_none o {why} h e = e ∙ ap (refuse why) (sym (ap offset_of e) ∙ h)
 
--- a contract of the shape of `Answers`: two values coincide, and the same is answered of what is the same
+-- a contract of the shape of `Answers`: two replies that say the same are equal, two values coincide, and the same is
+-- answered of what is the same
+pub tight_says_by : {U X A R : Type 0} (Same : U → U → Type 0) (Is : U → X → A → Type 0) (check : U → X → Outcome)
+    (ks : List ℕ) (say : R → Said A) (refuse : Refusal → R) → ((why : Refusal) → say (refuse why) ≡ Err why)
+    → ((r r' : R) → say r ≡ say r' → r ≡ r') → ((u : U) (x : X) (a b : A) → Is u x a → Is u x b → a ≡ b)
+    → ((u : U) (x : X) → Gives ks (check u x)) → among 0 ks ≡ false
+    → ((u u' : U) → Same u u' → (x : X) (r : R) → Answers (check u x) (Is u x) (say r)
+    → Answers (check u' x) (Is u' x) (say r))
+    → Tight (says_by Same (λ u x r. Answers (check u x) (Is u x) (say r)) check ks say refuse)
+tight_says_by Same Is check ks say refuse right alike one gives nonzero same =
+    record {
+      once = λ u x r r' is is'. alike r r' (answers_once (check u x) (Is u x) (one u x) (say r) (say r') is is');
+      number = λ u x r. answers_number (check u x) (Is u x) (say r);
+      refused = λ u x r why offset is e.
+          alike r (refuse why) (answers_refused (check u x) (Is u x) (say r) is e ∙ sym (right why));
+      numbers = gives;
+      nonzero = nonzero;
+      unread = same;
+    }
+
+-- the same of a reply that is what it says
 pub tight_says : {U X A : Type 0} (Same : U → U → Type 0) (Is : U → X → A → Type 0) (check : U → X → Outcome)
     (ks : List ℕ) → ((u : U) (x : X) (a b : A) → Is u x a → Is u x b → a ≡ b)
     → ((u : U) (x : X) → Gives ks (check u x)) → among 0 ks ≡ false
@@ -30,14 +51,7 @@ pub tight_says : {U X A : Type 0} (Same : U → U → Type 0) (Is : U → X → 
     → Answers (check u' x) (Is u' x) r)
     → Tight (says Same (λ u x r. Answers (check u x) (Is u x) r) check ks)
 tight_says Same Is check ks one gives nonzero same =
-    record {
-      once = λ u x r r' is is'. answers_once (check u x) (Is u x) (one u x) r r' is is';
-      number = λ u x r. answers_number (check u x) (Is u x) r;
-      refused = λ u x r why offset is e. answers_refused (check u x) (Is u x) r is e;
-      numbers = gives;
-      nonzero = nonzero;
-      unread = same;
-    }
+    tight_says_by Same Is check ks (λ r. r) (λ why. Err why) (λ why. refl) (λ r r' e. e) one gives nonzero same
 
 module _ (e : Entry) where
   -- a contract that fixes the reply as a value, by an equation say

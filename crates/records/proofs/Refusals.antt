@@ -13,19 +13,19 @@ use Rattle.std.specs.Prelude.{Result, Ok, Err}
 use Rattle.records.specs.declared.refusal.Refusal.{Refusal}
 use Rattle.records.specs.declared.refusal.Refusal.TheVariants as refusal
 use Rattle.records.specs.Refusal.{number}
-use Rattle.records.specs.First.{Outcome, Fine, pick, between, unless, range_check, or_else, first_of, number_of}
-use Rattle.records.specs.First.{offset_of, among, Gives}
-use Rattle.records.specs.Record.{placed, record_check, over_check}
+use Rattle.records.specs.First.{Checked, Outcome, Fine, pick, between, unless, range_check, or_else, first_of}
+use Rattle.records.specs.First.{number_of, offset_of, among, Gives}
+use Rattle.records.specs.Record.{placed, record_check, record_check_by, over_check}
 use Rattle.records.proofs.Checks.{false_true, both_true}
 
 -- ---- any property of what checks find
 
 -- the second check is reached where the first passes
-pub or_reached : (P : Outcome → Type 0) (x y : Outcome) → P x → (x ≡ Fine → P y) → P (or_else x y)
+pub or_reached : {E : Type 0} (P : Checked E → Type 0) (x y : Checked E) → P x → (x ≡ Fine → P y) → P (or_else x y)
 or_reached P (Ok u) y p q = q refl
 or_reached P (Err refused) y p q = p
 
-pub or_each : (P : Outcome → Type 0) (x y : Outcome) → P x → P y → P (or_else x y)
+pub or_each : {E : Type 0} (P : Checked E → Type 0) (x y : Checked E) → P x → P y → P (or_else x y)
 or_each P x y p q = or_reached P x y p (λ e. q)
 
 -- check i is reached where all before it pass
@@ -111,8 +111,8 @@ placed_gives ks (Ok u) at h = tt
 placed_gives ks (Err why) at h = h
 
 pub record_gives : (ks : List ℕ) (s : List ℕ) (at : ℕ) (due : Result (Unit {0}) Refusal) (body : ℕ)
-    → among (number refusal.Ended) ks ≡ true → GivesDue ks due → Gives ks (record_check s at due body refusal.Ended)
-unfolding record_check
+    → among (number refusal.Ended) ks ≡ true → GivesDue ks due → Gives ks (record_check s at due body)
+unfolding record_check_by
 record_gives ks s at due body l h =
     let begun : Outcome = unless (ltb at (length s)) refusal.Ended (length s) in
     let whole : Outcome = unless (ltb body (length s - at)) refusal.Ended at in
@@ -128,26 +128,27 @@ over_gives ks s at h = unless_gives ks (leb (length s) at) refusal.Followed at h
 
 -- ---- offsets
 
-pub unless_within : (most : ℕ) (b : Bool) (why : Refusal) (offset : ℕ) → offset ≤ most
+pub unless_within : {E : Type 0} (most : ℕ) (b : Bool) (why : E) (offset : ℕ) → offset ≤ most
     → offset_of (unless b why offset) ≤ most
 unless_within most true why offset h = omega arith
 unless_within most false why offset h = h
 
-placed_within : (most : ℕ) (due : Result (Unit {0}) Refusal) (at : ℕ) → at ≤ most → offset_of (placed due at) ≤ most
+placed_within : {E : Type 0} (most : ℕ) (due : Result (Unit {0}) E) (at : ℕ) → at ≤ most
+    → offset_of (placed due at) ≤ most
 placed_within most (Ok u) at h = omega arith
 placed_within most (Err why) at h = h
 
-pub record_within : (s : List ℕ) (at : ℕ) (due : Result (Unit {0}) Refusal) (body : ℕ) → at ≤ length s
-    → offset_of (record_check s at due body refusal.Ended) ≤ length s
-unfolding record_check
-record_within s at due body h =
-    let In : Outcome → Type 0 = λ (o : Outcome). offset_of o ≤ length s in
-    let begun : Outcome = unless (ltb at (length s)) refusal.Ended (length s) in
-    let whole : Outcome = unless (ltb body (length s - at)) refusal.Ended at in
+pub record_within : {E : Type 0} (s : List ℕ) (at : ℕ) (due : Result (Unit {0}) E) (body : ℕ) (ended : E)
+    → at ≤ length s → offset_of (record_check_by s at due body ended) ≤ length s
+unfolding record_check_by
+record_within {E} s at due body ended h =
+    let In : Checked E → Type 0 = λ (o : Checked E). offset_of o ≤ length s in
+    let begun : Checked E = unless (ltb at (length s)) ended (length s) in
+    let whole : Checked E = unless (ltb body (length s - at)) ended at in
     or_each In begun (or_else (placed due at) whole)
-    (unless_within (length s) (ltb at (length s)) refusal.Ended (length s) (omega arith))
+    (unless_within (length s) (ltb at (length s)) ended (length s) (omega arith))
     (or_each In (placed due at) whole (placed_within (length s) due at h)
-    (unless_within (length s) (ltb body (length s - at)) refusal.Ended at h))
+    (unless_within (length s) (ltb body (length s - at)) ended at h))
 
 over_by : (n at : ℕ) (b : Bool) → leb n at ≡ b → offset_of (unless b refusal.Followed at) ≤ n
 over_by n at true e = omega arith
@@ -157,10 +158,10 @@ pub over_within : (s : List ℕ) (at : ℕ) → offset_of (over_check s at) ≤ 
 unfolding over_check
 over_within s at = over_by (length s) at (leb (length s) at) refl
 
-pub unless_offset : (b : Bool) (why : Refusal) → offset_of (unless b why 0) ≡ 0
+pub unless_offset : {E : Type 0} (b : Bool) (why : E) → offset_of (unless b why 0) ≡ 0
 unless_offset true why = refl
 unless_offset false why = refl
 
-pub range_offset : (x high : ℕ) (why : Refusal) → offset_of (range_check x high why) ≡ 0
+pub range_offset : {E : Type 0} (x high : ℕ) (why : E) → offset_of (range_check x high why) ≡ 0
 unfolding range_check
 range_offset x high why = unless_offset (between 1 x high) why

@@ -1,8 +1,9 @@
 -- The entries of `records` as rows of demand 1's table. What they find is returned, for a reason that may have been
 -- handed in, of any type E, and the entries above refuse by it: so all but the last refuse nothing themselves.
 use Rattle.std.specs.Prelude.{◌≡◌, List, [], ◌∷◌, ℕ, ◌<◌, get_or, Result}
-use Rattle.records.specs.First.{Checked, range_check, or_else}
-use Rattle.records.specs.Record.{record_check, over_check}
+use Rattle.records.specs.declared.refusal.Refusal.{Refusal}
+use Rattle.records.specs.First.{Checked, Outcome, range_check, or_else}
+use Rattle.records.specs.Record.{record_check, record_check_by, over_check}
 use Rattle.records.specs.Entry.{Entry, finds, always}
 
 -- `or_else`
@@ -22,10 +23,16 @@ abbrev pub kind_entry : Entry
 kind_entry = always (λ (s : List ℕ) (at r : ℕ). r ≡ get_or s at 0)
 
 -- `check_record`
-abbrev pub record_entry : Type 0 → Entry
-record_entry E =
+abbrev pub record_entry : Entry
+record_entry =
+    always (λ (s : List ℕ) (more : ℕ × Result (Unit {0}) Refusal × ℕ) (r : Outcome).
+    r ≡ record_check s more.0 more.1 more.2)
+
+-- `check_record_by`
+abbrev pub record_by_entry : Type 0 → Entry
+record_by_entry E =
     always (λ (s : List ℕ) (more : ℕ × Result (Unit {0}) E × ℕ × E) (r : Checked E).
-    r ≡ record_check s more.0 more.1 more.2 more.3)
+    r ≡ record_check_by s more.0 more.1 more.2 more.3)
 
 -- `check_over`, whose number is its own: 4
 abbrev pub over_entry : Entry

@@ -88,21 +88,27 @@ ValueOf plain = plain.type.Denot
 
 -- ---- rows of one shape
 
--- an entry that says a value or why it is refused, and returns nothing besides
-abbrev pub says : {U X A : Type 0} → (U → U → Type 0) → (U → X → Said A → Type 0) → (U → X → Outcome) → List ℕ
-    → Entry
-says {U} {X} {A} Same Is check numbers =
+-- an entry whose reply, of any type, says a value or why it is refused, by say, and which returns nothing besides;
+-- refuse is the reply that refuses so
+abbrev pub says_by : {U X A R : Type 0} → (U → U → Type 0) → (U → X → R → Type 0) → (U → X → Outcome) → List ℕ
+    → (R → Said A) → (Refusal → R) → Entry
+says_by {U} {X} {A} {R} Same Is check numbers say refuse =
     record {
       Subject = U;
       Same = Same;
       More = X;
-      Reply = Said A;
+      Reply = R;
       Is = Is;
       check = check;
       numbers = numbers;
-      number = said_number;
-      Refuses = λ x why offset r. r ≡ Err why;
+      number = λ r. said_number (say r);
+      Refuses = λ x why offset r. r ≡ refuse why;
     }
+
+-- an entry that says a value or why it is refused, and returns nothing besides
+abbrev pub says : {U X A : Type 0} → (U → U → Type 0) → (U → X → Said A → Type 0) → (U → X → Outcome) → List ℕ
+    → Entry
+says {U} {X} {A} Same Is check numbers = says_by {A = A} Same Is check numbers (λ r. r) (λ why. Err why)
 
 -- an entry that returns what a check finds; `at` is the offset that it has, 0 outside reading
 abbrev pub finds : {U X : Type 0} → (U → U → Type 0) → (ℕ → ℕ) → (U → X → Outcome) → List ℕ → Entry

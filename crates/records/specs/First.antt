@@ -58,7 +58,7 @@ number_of (Ok u) = 0
 number_of (Err refused) = number refused.why
 
 -- its offset, 0 where nothing is refused
-abbrev pub offset_of : Outcome → ℕ
+abbrev pub offset_of : {E : Type 0} → Checked E → ℕ
 offset_of (Ok u) = 0
 offset_of (Err refused) = refused.offset
 

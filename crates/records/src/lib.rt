@@ -9,7 +9,7 @@ pub mod refusal; // refusal.rt
 
 ghost use Rattle.std.specs.Prelude.{◌≡◌, ◌<◌, get_or};
 ghost use Rattle.records.specs.First.{or_else, range_check};
-ghost use Rattle.records.specs.Record.{record_check, over_check};
+ghost use Rattle.records.specs.Record.{record_check, record_check_by, over_check};
 
 use refusal::{At, Refusal, Refused};
 
@@ -45,17 +45,29 @@ pub fn kind_at(s: &[u8], at: usize) -> u8
     s.get(at).copied().unwrap_or(0)
 }
 
-// A record at a place: whether its kind is due there, and why not, is handed in; its body has this many bytes. One that
-// ends too soon is refused by `ended`.
-#[tactic(auto, unfolding(crate::specs::Record::record_check))]
-pub fn check_record<E: Copy>(
+// A record at a place, by document 01's refusals: whether its kind is due there, and why not, is handed in; its body
+// has this many bytes. One that ends too soon is refused by 1.
+pub fn check_record(
+    s: &[u8],
+    at: usize,
+    due: Result<(), Refusal>,
+    body: usize,
+) -> Result<(), Refused>
+    ensures { result ≡ record_check s.now at due body }
+{
+    check_record_by(s, at, due, body, Refusal::Ended)
+}
+
+// The same by any reasons: one that ends too soon is refused by `ended`.
+#[tactic(auto, unfolding(crate::specs::Record::record_check_by))]
+pub fn check_record_by<E: Copy>(
     s: &[u8],
     at: usize,
     due: Result<(), E>,
     body: usize,
     ended: E,
 ) -> Result<(), At<E>>
-    ensures { result ≡ record_check s.now at due body ended }
+    ensures { result ≡ record_check_by s.now at due body ended }
 {
     if s.len() <= at {
         return Err(At {

@@ -16,8 +16,7 @@ impl Output<'_> {
         requires { HasRoom self.old 1 }
         ensures { Adds self.old (x ∷ []) self.new }
     {
-        self.lent[self.at] = x;
-        self.at += 1;
+        self.put(&[x]);
     }
 
     // A number in two bytes, the high byte first.

@@ -4,5 +4,5 @@
 use std::io;
 
 fn main(rt: HostRuntime) -> io::Result<()> {
-    input::answer(&mut rt.stdin(), &mut rt.stdout(), listing::report)
+    input::inner::answer(&mut rt.stdin(), &mut rt.stdout(), listing::report)
 }

@@ -1,16 +1,25 @@
 -- What the search refuses: 16 exactly where f or n is too large, after the requirements' own checks.
 -- Assumes nothing.
 use mathlib.Core.Path.{◌≡◌}
-use Prim.Native.Nat.{◌≤◌}
+use Prim.Native.Nat.{◌≤◌, ◌<◌}
 use lib.Dec.{leb}
-use borrow.Author.Tests.{le-leb, leb-true}
+use borrow.Author.Tests.{le-leb, lt-leb, leb-true}
 use Rattle.records.specs.declared.refusal.Refusal.TheVariants as refusal
-use Rattle.records.specs.First.{unless, Fine}
+use Rattle.records.specs.First.{unless, Fine, refuse}
 use Rattle.records.proofs.Checks.{both_fine, unless_fine}
 use Rattle.plan.specs.declared.Plan.{Plan}
 use Rattle.plan.specs.Check.{requirements_check}
 use Rattle.plan.proofs.Laws.{InBounds, requirements_fine, requirements_pass}
 use Rattle.search.specs.Search.{most_slots, most_clients, size_check, search_check}
+
+pub too_long : (plan : Plan) → most_slots < plan.f → size_check plan ≡ refuse refusal.TooLarge 0
+unfolding size_check
+too_long plan l = simp (lt-leb plan.f most_slots l)
+
+pub too_many : (plan : Plan) → plan.f ≤ most_slots → most_clients < plan.n
+    → size_check plan ≡ refuse refusal.TooLarge 0
+unfolding size_check
+too_many plan l h = simp (le-leb plan.f most_slots l, lt-leb plan.n most_clients h)
 
 pub size_pass : (plan : Plan) → plan.f ≤ most_slots → plan.n ≤ most_clients → size_check plan ≡ Fine
 unfolding size_check

@@ -10,7 +10,7 @@ use native.Mathlib.Nat.{mod-lt, pow-suc}
 use native.Mathlib.Numerals.{add-one}
 use native.Mathlib.Omega.{arith}
 use lib.Dec.{eqb}
-use lib.ListN.{length, get_or, take, drop, set}
+use lib.ListN.{length, get_or, take, drop, set, length-take, drop_of_length-le}
 use lib.Seq.{get_or-take, length-take-le, take-set-lt, set_split, drop_at}
 use borrow.Author.Tests.{eqb-true, ne_eqb}
 use Rattle.frame.specs.Frame.{within}
@@ -72,6 +72,9 @@ drop_set owners g j owner l h =
     let front = length-take-le j (take g owners) (omega arith) in
     ap (drop j) (take-set-lt g owners j owner l ∙ set_split (take g owners) j owner (omega arith))
     ∙ drop_at (take j (take g owners)) (owner ∷ drop (suc j) (take g owners)) j front
+
+pub leads_none : (c g node : ℕ) (owners : List ℕ) → node_from c node (drop g (take g owners)) ≡ node
+leads_none c g node owners = rw (drop_of_length-le (take g owners) {i = g} (omega (arith, length-take g owners)))
 
 pub leads_more : (c g node : ℕ) (owners : List ℕ) (above j owner : ℕ) → j < g → g ≤ length owners
     → child_of c (above / 2) owner ≡ above → node_from c above (drop (suc j) (take g owners)) ≡ node

@@ -50,7 +50,7 @@ rows_within s f n at i l h = place_within s at row_kind i l (λ j m. (rows_fine 
 
 due_within : (s : List ℕ) (at due : ℕ) → at ≤ length s → Within s (due_check s at due)
 unfolding Within due_check
-due_within s at due l = record_within s at (kind_check due (get_or s at 0)) (body_of (get_or s at 0)) l
+due_within s at due l = record_within s at (kind_check due (get_or s at 0)) (body_of (get_or s at 0)) refusal.Ended l
 
 head_within : (s : List ℕ) → Within s (head_record_check s)
 unfolding Within head_record_check

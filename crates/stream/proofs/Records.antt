@@ -1,22 +1,23 @@
--- Laws of a plan stream's records and their places: what decides a record's check, what a record that
+-- Laws of a plan stream's records and their places: what a kind is, what decides a record's check, what a record that
 -- passes says, and where the next one stands.
 -- Assumes nothing.
 use mathlib.Core.Path.{◌≡◌, refl, ap, sym, ◌∙◌}
 use mathlib.Core.Bool.{Bool, true, false}
 use mathlib.Core.List.{List}
+use mathlib.Core.Logic.{◌≢◌, ⊎_elim}
 use Prim.Native.Nat.{ℕ, zero, suc, ◌+◌, ◌-◌, ◌*◌, ◌≤◌, ◌<◌, max}
 use native.Mathlib.Numerals.{add-one}
 use native.Mathlib.Omega.{arith}
 use lib.Dec.{eqb}
 use lib.ListN.{length, get_or, take, drop, length-take}
 use lib.Seq.{get_or-take, get_or-drop}
-use borrow.Author.Tests.{eqb-true, lt-ltb}
+use borrow.Author.Tests.{eqb-true, lt-ltb, le-leb, lt-leb, ne_eqb}
 use Rattle.records.specs.declared.refusal.Refusal.TheVariants as refusal
 use Rattle.records.specs.First.{pick, first_of, Outcome, Fine}
 use Rattle.std.specs.Prelude.{Ok, Err}
 use Rattle.records.specs.Record.{record_check}
 use Rattle.records.proofs.Checks.{not_fine, both_fine, unless_fine, range_fine, first_fine, first_same, record_fine}
-use Rattle.records.proofs.Checks.{record_pass, record_body, over_fine}
+use Rattle.records.proofs.Checks.{below_or_not, record_pass, record_body, over_fine}
 use Rattle.plan.specs.Check.{owner_check}
 use Rattle.plan.proofs.Laws.{Required, client_fine, owner_higher}
 use Rattle.stream.specs.Kind.{head_kind, client_kind, row_kind, end_kind, body_of, whole_of, is_reserved, kind_check}
@@ -24,6 +25,24 @@ use Rattle.stream.specs.Kind.{rows_of}
 use Rattle.stream.specs.Read.{f_in, n_in, next_place, place, due_check, head_record_check, client_at, number_check}
 use Rattle.stream.specs.Read.{client_record_check, client_due_check, slot_check, slot_due_check, row_record_check}
 use Rattle.stream.specs.Read.{row_due_check, end_record_check, to_clients, to_rows, to_end, rest_check, read_check}
+
+-- ---- what a kind is
+
+-- 1, 2 and 3 are known, and not due where another kind is
+pub class_low : (due kind : ℕ) → kind ≢ 0 → kind < 4 → kind ≢ due → kind_check due kind ≡ Err refusal.NotDue
+unfolding kind_check
+class_low due kind some low other =
+    simp (ne_eqb kind 0 some, lt-leb 4 kind low, lt-leb 10 kind (omega arith), ne_eqb kind due other)
+
+-- from 4 on all are reserved but 9
+pub class_high : (due kind : ℕ) → 4 ≤ kind → kind ≢ 9 → kind_check due kind ≡ Err refusal.Reserved
+unfolding kind_check
+class_high due kind high other =
+    let some = ne_eqb kind 0 (λ e. omega (arith, e)) in
+    ⊎_elim
+    (λ (l : kind < 9). simp (some, le-leb 4 kind high, le-leb kind 8 (omega arith)))
+    (λ (l : 9 ≤ kind). simp (some, le-leb 4 kind high, lt-leb kind 8 (omega arith), le-leb 10 kind (omega arith)))
+    (below_or_not kind 9)
 
 -- ---- a record where a kind is due
 
@@ -43,7 +62,7 @@ kind_due due kind h = eqb-true kind due (kind_by (is_reserved kind) (eqb kind du
 
 -- a record's length matters only where its kind is the one due
 pub due_body : (s : List ℕ) (at due : ℕ)
-    → record_check s at (kind_check due (get_or s at 0)) (body_of due) refusal.Ended ≡ due_check s at due
+    → record_check s at (kind_check due (get_or s at 0)) (body_of due) ≡ due_check s at due
 unfolding due_check
 due_body s at due =
     let kind = get_or s at 0 in

@@ -27,7 +27,7 @@ place s at (suc k) = next_place s (place s at k)
 
 -- a record where a kind is due
 unfoldable pub due_check : List ℕ → ℕ → ℕ → Outcome
-due_check s at due = record_check s at (kind_check due (get_or s at 0)) (body_of (get_or s at 0)) refusal.Ended
+due_check s at due = record_check s at (kind_check due (get_or s at 0)) (body_of (get_or s at 0))
 
 -- f, as the head holds it
 abbrev pub f_in : List ℕ → ℕ

@@ -44,8 +44,10 @@ pub fn write(plan: Plan, out: &mut [u8]) -> Result<usize, Refusal>
 pub fn rewritten(s: &[u8], out: &mut [u8]) -> Result<usize, Refusal>
     ensures { Copied s.now out.old result out.new }
 {
-    let plan = read(s)?;
-    write(plan, out)
+    match read(s) {
+        Ok(plan) => write(plan, out),
+        Err(refused) => Err(refused.why),
+    }
 }
 
 // A plan is written and its stream is read: the same plan, 0 past f and past n, or its refusal.

@@ -23,7 +23,7 @@ fn check_due(s: &[u8], at: usize, due: Kind) -> Result<(), Refused>
     ensures { result ≡ due_check s.now at (code due) }
 {
     let found = kind::check_kind(kind_at(s, at), due);
-    check_record(s, at, found, due.body(), Refusal::Ended)
+    check_record(s, at, found, due.body())
 }
 
 // The record of f and n: 5, 6.

@@ -12,7 +12,7 @@ returns c =
     let e = sets-eq c.args.bytes.now out.lent.now out.at c.requires in
     let copied = c.copy_from_slice.ensures in
     record {
-      put = record { place = refl; stored = grind (arith, common_steps, e, copied.after) };
+      put = record { place = omega arith; stored = grind (arith, common_steps, e, copied.after) };
       long = grind (arith, common_steps, copied.after);
       same = refl;
     }
