@@ -42,15 +42,18 @@ pub fn acceptance() -> Judgement
 }
 
 // Judges the clients from + 1 to `to`, and is left by its label at the first failing stretch. Its slots w are counted
-// along.
+// along. Inlined, with its tables by name, since a caller would else copy the plan for each client that it asks about.
+#[inline(always)]
 pub fn first_failure(plan: Plan, from: usize, to: usize) -> Judgement
     requires { (1 ≤ plan.f) × (plan.f ≤ 64) × (to ≤ 8) }
     ensures { IsJudgement plan from to result }
 {
+    let requirements = plan.clients;
+    let owners = plan.owners;
     'judging: {
         'clients: for i in from..to {
             let client = i + 1;
-            let required = plan.clients[i];
+            let required = requirements[i];
             let m = slots(plan, client);
             if !enough(required, plan.f, m) {
                 break 'judging Judgement {
@@ -72,7 +75,7 @@ pub fn first_failure(plan: Plan, from: usize, to: usize) -> Judgement
                             length,
                         };
                     }
-                    w += owned_by(plan.owners[at], client);
+                    w += owned_by(owners[at], client);
                     at = next(plan.f, at);
                 }
             }
